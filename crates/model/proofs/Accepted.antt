@@ -1,0 +1,128 @@
+-- Demand 2 for the verdict: a file is accepted exactly if it keeps every rule, and a refusal names the first rule broken, in the
+-- listed order. Assumes nothing.
+use Prim.Native.Nat.{ℕ, _+_, _≤_, _<_}
+use mathlib.Core.Path.{_≡_}
+use mathlib.Core.Logic.{_↔_, Iff·trans}
+use mathlib.Core.List.{List, [], _∷_}
+use mathlib.Core.Option.{none, some}
+use native.Mathlib.Omega.{arith}
+use lib.ListN.{length}
+use Rattle.model.specs.declared.Machine.{Machine}
+use Rattle.model.specs.Obligations.{Fault, Obligation, owes, each, firstFault, AllMet, FirstUnmet}
+use Rattle.model.specs.Program.{Program}
+use Rattle.model.specs.File.{mostInstructions, mostTargets, isListed, field, codeStart, targetsAt, instructionCount, targetCount, layoutIn, isInstruction, isGoodTarget, readable, programIn}
+use Rattle.model.specs.Judgement.{atIndex, verified, obligations, judged}
+use Rattle.model.specs.Rules.{FieldKept, SomeOf, InstructionKept, TargetKept, FileKept, IndexKept, KeepsEveryRule, Runnable}
+use Rattle.model.specs.Run.{runnable}
+use Rattle.model.proofs.Obligations.{none-iff-met, first-unmet, append-met, append-fault, each-met, each-one}
+use Rattle.model.proofs.Reflection.{le-reflects, lt-reflects, eq-reflects, multiple-reflects}
+use Rattle.model.proofs.FileRules.{field-kept, layout-reflects, instruction-reflects, target-reflects}
+use Rattle.model.proofs.CodeRules.{index-kept}
+
+-- rules 1 to 7
+pub readable-iff : (file : List ℕ) → (firstFault (readable file) ≡ none) ↔ FileKept file
+unfolding readable isListed
+readable-iff file = Iff·trans (none-iff-met (readable file)) (λ h. kept h, λ k. met k)
+  where
+    instruction-obligations : List Obligation
+    instruction-obligations = each (instructionCount file) (λ i. owes 6 i (isInstruction file i) ∷ [])
+
+    target-obligations : List Obligation
+    target-obligations = each (targetCount file) (λ j. owes 7 j (isGoodTarget file j) ∷ [])
+
+    layout-part : AllMet (field file 0 1) ↔ FieldKept file 0 1 (λ n. n ≡ 12)
+    layout-part = field-kept file 0 1 (λ n. eq-reflects n 12)
+
+    code-part : AllMet (field file codeStart 2) ↔ FieldKept file codeStart 2 (SomeOf 8 mostInstructions)
+    code-part = field-kept file codeStart 2 (λ n. multiple-reflects 8 mostInstructions n (omega arith))
+
+    targets-part : AllMet (field file (targetsAt file) 3) ↔ FieldKept file (targetsAt file) 3 (SomeOf 68 mostTargets)
+    targets-part = field-kept file (targetsAt file) 3 (λ n. multiple-reflects 68 mostTargets n (omega arith))
+
+    instructions-part : AllMet instruction-obligations ↔ ((i : ℕ) → i < instructionCount file → InstructionKept file i)
+    instructions-part = each-one (instructionCount file) 6 (instruction-reflects file)
+
+    targets-each : AllMet target-obligations ↔ ((j : ℕ) → j < targetCount file → TargetKept file j)
+    targets-each = each-one (targetCount file) 7 (target-reflects file)
+
+    kept : AllMet (readable file) → FileKept file
+    kept h =
+        let fields = append-met (field file 0 1) _ .0 h in
+        let later = append-met (field file codeStart 2) _ .0 (fields .1) in
+        let last = append-met (field file (targetsAt file) 3) _ .0 (later .1) in
+        let tables = append-met instruction-obligations target-obligations .0 (last .1 .1 .1) in
+        record {
+          layout-field = layout-part .0 (fields .0);
+          code-field = code-part .0 (later .0);
+          targets-field = targets-part .0 (last .0);
+          no-tail = eq-reflects _ _ .0 (last .1 .0);
+          layout = layout-reflects (layoutIn file) .0 (last .1 .1 .0);
+          instructions = instructions-part .0 (tables .0);
+          targets = targets-each .0 (tables .1);
+        }
+
+    met : FileKept file → AllMet (readable file)
+    met k =
+        append-met (field file 0 1) _ .1 (
+          layout-part .1 (k .layout-field),
+          append-met (field file codeStart 2) _ .1 (
+            code-part .1 (k .code-field),
+            append-met (field file (targetsAt file) 3) _ .1 (
+              targets-part .1 (k .targets-field),
+              (
+                eq-reflects _ _ .1 (k .no-tail),
+                (
+                  layout-reflects (layoutIn file) .1 (k .layout),
+                  append-met instruction-obligations target-obligations .1
+                      (instructions-part .1 (k .instructions), targets-each .1 (k .targets)),
+                ),
+              ),
+            ),
+          ),
+        )
+
+-- rules 8 to 13
+pub verified-iff : (p : Program) → AllMet (verified p) ↔ ((i : ℕ) → i < length (p .code) → IndexKept p i)
+unfolding verified
+verified-iff p = (
+  λ h i below. index-kept p i .0 (each-met 0 (length (p .code)) (atIndex p) .0 h i (omega arith) (omega arith)),
+  λ k. each-met 0 (length (p .code)) (atIndex p) .1 (λ i from below. index-kept p i .1 (k i (omega arith))),
+)
+
+-- accepted exactly if every rule is kept
+pub accepted-iff : (file : List ℕ) → (judged file ≡ none) ↔ KeepsEveryRule file
+unfolding judged obligations
+accepted-iff file =
+    Iff·trans (append-fault (readable file) (verified (programIn file))) (
+      λ h. record {
+        file-rules = readable-iff file .0 (h .0);
+        code-rules = verified-iff (programIn file) .0 (none-iff-met (verified (programIn file)) .0 (h .1));
+      },
+      λ k. (readable-iff file .1 (k .file-rules), none-iff-met (verified (programIn file)) .1 (verified-iff (programIn file) .1 (k .code-rules))),
+    )
+
+-- a refusal is the first in the listed order: everything judged earlier passes, and it itself fails
+pub refusal-first : (file : List ℕ) (f : Fault) → judged file ≡ some f → FirstUnmet (obligations file) f
+unfolding judged
+refusal-first file f e = first-unmet (obligations file) f e
+
+-- and so is the refusal of a run: 1 to 7, then 14, then 15
+pub run-refusal-first : (file : List ℕ) (m : Machine) (memory : List ℕ) (offset : ℕ) (f : Fault)
+    → firstFault (runnable file m memory offset) ≡ some f → FirstUnmet (runnable file m memory offset) f
+run-refusal-first file m memory offset f e = first-unmet (runnable file m memory offset) f e
+
+-- a run is not refused exactly if it has what it asks for
+pub runnable-iff : (file : List ℕ) (m : Machine) (memory : List ℕ) (offset : ℕ)
+    → (firstFault (runnable file m memory offset) ≡ none) ↔ Runnable file m memory offset
+unfolding runnable
+runnable-iff file m memory offset =
+    Iff·trans (append-fault (readable file) _) (
+      λ h.
+          let last = none-iff-met _ .0 (h .1) in
+          record {
+            file-rules = readable-iff file .0 (h .0);
+            pc-inside = lt-reflects _ _ .0 (last .0);
+            fits = le-reflects _ _ .0 (last .1 .0);
+          },
+      λ k. (readable-iff file .1 (k .file-rules), none-iff-met _ .1 (lt-reflects _ _ .1 (k .pc-inside), (le-reflects _ _ .1 (k .fits), tt))),
+    )

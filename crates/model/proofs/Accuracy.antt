@@ -1,0 +1,143 @@
+-- Ranges are accurate: where the registers lie within what is known before an instruction, they lie within what is known along
+-- the edge that it takes, and it strays only by an access that rule 10 does not allow. Assumes nothing.
+use Prim.Native.Nat.{ℕ}
+use mathlib.Core.Path.{_≡_, refl, sym, _∙_, subst}
+use mathlib.Core.Bool.{Bool, true, false, cond, true≢false}
+use mathlib.Core.List.{List}
+use mathlib.Core.Option.{none, some, Option·some-injective, Option·none-ne-some}
+use Rattle.model.specs.declared.Ending.{Ending}
+use Rattle.model.specs.declared.Ending.the-variants.{Halted, Trapped, Denied, Violated, OutOfBudget}
+use Rattle.model.specs.declared.Layout.{Layout}
+use Rattle.model.specs.declared.Ranges.{Ranges}
+use Rattle.model.specs.declared.Target.{Target}
+use Rattle.model.specs.Words.{readBytes}
+use Rattle.model.specs.Program.{isIndirect}
+use Rattle.model.specs.Instructions.{bytesOf, loadRange, holds, reg, Access, Shape, stops, assigns, loads, stores, jumps, branches, checks, jumpsVia, traits, afterNext, afterTaken}
+use Rattle.model.specs.Step.{address, inRegion, inZones, Effect, goesOn, goesTo, goesVia, ends, accessing, offsetOf, effect}
+use Rattle.model.specs.Rules.{LayoutKept, Contained}
+use Rattle.model.specs.Safety.{Words, Bytes}
+use Rattle.model.proofs.Tests.{by-cond}
+use Rattle.model.proofs.Registers.{Within, within-put, words-set, bytes-write}
+use Rattle.model.proofs.Values.{Fits, loaded-fits}
+use Rattle.model.proofs.Containment.{contained-in-zones, inZones-passes}
+use Rattle.model.proofs.Cuts.{within-ruleN, within-ruleB}
+use Rattle.model.proofs.Sound.{SoundAccess, Sound}
+
+-- ---- what holds after an instruction, by its effect
+
+-- it goes on to the next index
+pub record NextAccurate (l : Layout) (ts : List Target) (s : Shape) (k : Ranges) (rs bs : List ℕ) : Type 0 where
+  pub within : Within (afterNext l s k) rs
+  pub words : Words rs
+  pub bytes : Bytes (l .size) bs
+  pub falls : traits s .falls ≡ true
+  pub checked : (a : ℕ) → traits s .looksAt ≡ some a → isIndirect ts (reg rs a) ≡ true
+
+-- it goes to a named index
+pub record TakenAccurate (s : Shape) (k : Ranges) (rs : List ℕ) (to : ℕ) : Type 0 where
+  pub within : Within (afterTaken s k) rs
+  pub named : traits s .names ≡ some to
+
+-- it goes to the index in a register
+pub record ViaAccurate (s : Shape) (rs : List ℕ) (to : ℕ) : Type 0 where
+  pub register : ℕ
+  pub by : traits s .goesBy ≡ some register
+  pub held : to ≡ reg rs register
+
+-- rule 10 allows its access, if any
+abbrev pub AccessAllowed : Layout → Shape → Ranges → Type 0
+AccessAllowed l s k = (ac : Access) → traits s .access ≡ some ac → Contained l k ac
+
+abbrev violates : Ending → Bool
+violates Halted = false
+violates Trapped = false
+violates Denied = false
+violates Violated = true
+violates OutOfBudget = false
+
+abbrev Accurate : Layout → List Target → Shape → Ranges → List ℕ → Effect → Type 0
+Accurate l ts s k rs (goesOn rs′ bs′) = NextAccurate l ts s k rs′ bs′
+Accurate l ts s k rs (goesTo to) = TakenAccurate s k rs to
+Accurate l ts s k rs (goesVia to) = ViaAccurate s rs to
+Accurate l ts s k rs (ends e) = AccessAllowed l s k → violates e ≡ false
+
+module _ {l : Layout} (lk : LayoutKept l) (ts : List Target) {k : Ranges} {rs bs : List ℕ}
+    (w : Within k rs) (ws : Words rs) (bytes : Bytes (l .size) bs) where
+  -- an instruction that goes on and checks nothing
+  goes-on : (s : Shape) (rs′ bs′ : List ℕ) → traits s .falls ≡ true → traits s .looksAt ≡ none
+      → Within (afterNext l s k) rs′ → Words rs′ → Bytes (l .size) bs′ → NextAccurate l ts s k rs′ bs′
+  goes-on s rs′ bs′ f unchecked within′ words′ bytes′ = record {
+    within = within′;
+    words = words′;
+    bytes = bytes′;
+    falls = f;
+    checked = λ a e. absurd (Option·none-ne-some a (sym unchecked ∙ e));
+  }
+
+  access-accurate : (s : Shape) (a : ℕ) (ac : Access) (done : Effect) → SoundAccess a ac → traits s .access ≡ some ac
+      → (inRegion l (address ac rs) (bytesOf (ac .width)) ≡ true → Accurate l ts s k rs done)
+      → Accurate l ts s k rs (accessing l ac rs done)
+  unfolding accessing
+  access-accurate s a ac done sound has if-done =
+      by-cond (Accurate l ts s k rs) (inRegion l (address ac rs) (bytesOf (ac .width))) if-done (λ _. only-trapped)
+    where
+      zones : Bool
+      zones = inZones l (address ac rs) (bytesOf (ac .width))
+
+      passes : AccessAllowed l s k → zones ≡ true
+      passes allowed = inZones-passes (contained-in-zones lk w (sound .pointer) (sound .displacement) (allowed ac has))
+
+      only-trapped : AccessAllowed l s k → violates (cond zones Trapped Violated) ≡ false
+      only-trapped allowed = rw (passes allowed)
+
+  effect-accurate : (s : Shape) → Sound s → Accurate l ts s k rs (effect l ts s rs bs)
+  unfolding effect afterNext afterTaken
+  effect-accurate stops sound = λ allowed. refl
+  effect-accurate (assigns a value ranged) sound =
+      let new : Fits (ranged k) (value rs) = sound .fits w ws in
+      goes-on (assigns a value ranged) _ _ refl refl
+      (within-put w ws a (sound .register) (ranged k) (value rs) (new .inside)) (words-set ws a (value rs) (new .word)) bytes
+  effect-accurate (loads a ac) sound =
+      let at : ℕ = offsetOf l ac rs in
+      let new : Fits (loadRange (ac .width)) (readBytes (bytesOf (ac .width)) bs at) = loaded-fits (ac .width) bs at (bytes .small) in
+      access-accurate (loads a ac) a ac _ sound refl
+      (λ done. goes-on (loads a ac) _ _ refl refl
+      (within-put (within-ruleN w ws l ac (sound .pointer) done) ws a (sound .register) (loadRange (ac .width)) _ (new .inside))
+      (words-set ws a _ (new .word)) bytes)
+  effect-accurate (stores a ac) sound =
+      access-accurate (stores a ac) a ac _ sound refl
+      (λ done. goes-on (stores a ac) _ _ refl refl
+      (within-ruleN w ws l ac (sound .pointer) done) ws (bytes-write (bytesOf (ac .width)) (reg rs a) (offsetOf l ac rs) bytes))
+  effect-accurate (jumps to) sound = record { within = w; named = refl }
+  effect-accurate (branches test a b to) sound =
+      by-cond (Accurate l ts (branches test a b to) k rs) (holds test (reg rs a) (reg rs b))
+      (λ t. record { within = within-ruleB w ws a b (sound .left) (sound .right) test true t; named = refl })
+      (λ f. goes-on (branches test a b to) rs bs refl refl (within-ruleB w ws a b (sound .left) (sound .right) test false f) ws bytes)
+  effect-accurate (checks a) sound =
+      by-cond (Accurate l ts (checks a) k rs) (isIndirect ts (reg rs a))
+      (λ t. record {
+        within = w;
+        words = ws;
+        bytes = bytes;
+        falls = refl;
+        checked = λ b e. rw (sym (Option·some-injective a b e)) t;
+      })
+      (λ _ allowed. refl)
+  effect-accurate (jumpsVia a) sound = record { register = a; by = refl; held = refl }
+
+  module _ (s : Shape) (sound : Sound s) where
+    -- the edge to the next index
+    pub accurate-next : {rs′ bs′ : List ℕ} → effect l ts s rs bs ≡ goesOn rs′ bs′ → NextAccurate l ts s k rs′ bs′
+    accurate-next e = subst (Accurate l ts s k rs) e (effect-accurate s sound)
+
+    -- the edge that a jump or taken branch takes
+    pub accurate-taken : {to : ℕ} → effect l ts s rs bs ≡ goesTo to → TakenAccurate s k rs to
+    accurate-taken e = subst (Accurate l ts s k rs) e (effect-accurate s sound)
+
+    -- a jump through a register
+    pub accurate-via : {to : ℕ} → effect l ts s rs bs ≡ goesVia to → ViaAccurate s rs to
+    accurate-via e = subst (Accurate l ts s k rs) e (effect-accurate s sound)
+
+    -- an instruction whose access is allowed does not stray
+    pub never-violated : AccessAllowed l s k → effect l ts s rs bs ≡ ends Violated → ⊥
+    never-violated allowed e = true≢false (subst (Accurate l ts s k rs) e (effect-accurate s sound) allowed)

@@ -1,0 +1,116 @@
+-- Registers within their ranges, and what keeps them there; words and bytes, and what keeps them so. Assumes nothing.
+use Prim.Native.Nat.{ℕ, zero, suc, _+_, _*_, _/_, _%_, _^_, _≤_, _<_}
+use mathlib.Core.Path.{_≡_, ap, _∙_, subst}
+use mathlib.Core.Bool.{_||_}
+use mathlib.Core.List.{List, [], _∷_}
+use native.Mathlib.Omega.{arith}
+use native.Mathlib.Decide.{ℕ-discrete}
+use lib.ListN.{length, getD, set, length-set}
+use lib.Seq.{getD-set-same, getD-set-other, set-getD}
+use lib.Pow.{pow-add}
+use Rattle.model.specs.declared.Range.{Range}
+use Rattle.model.specs.declared.Ranges.{Ranges}
+use Rattle.model.specs.Words.{modulus, readBytes, writeBytes}
+use Rattle.model.specs.Ranges.{low, high, rangeOf, put, common, isEmpty, cut, cutBoth}
+use Rattle.model.specs.Instructions.{reg}
+use Rattle.model.specs.Safety.{Words, Bytes}
+use Rattle.model.proofs.Tests.{by-cond}
+
+-- a value lies in a range
+abbrev pub In : Range → ℕ → Type 0
+In x v = (x .low ≤ v) × (v ≤ x .high)
+
+-- the registers lie within their ranges
+pub record Within (k : Ranges) (rs : List ℕ) : Type 0 where
+  pub lows8 : length (k .lows) ≡ 8
+  pub highs8 : length (k .highs) ≡ 8
+  pub low : (r : ℕ) → r < 8 → low k r ≤ reg rs r
+  pub high : (r : ℕ) → r < 8 → reg rs r ≤ high k r
+
+-- ---- ranges that change
+
+-- a bound and a register change at the same place, and how they compare is kept everywhere
+bound-after-set : (Bounds : ℕ → ℕ → Type 0) (bounds rs : List ℕ) (a e v : ℕ) → a < length bounds → a < length rs → Bounds e v
+    → (r : ℕ) → Bounds (getD bounds r 0) (reg rs r) → Dec (r ≡ a) → Bounds (getD (set bounds a e) r 0) (reg (set rs a v) r)
+bound-after-set Bounds bounds rs a e v h h′ new r old (yes q) =
+    rw (q, getD-set-same bounds a e 0 h, getD-set-same rs a v 0 h′) new
+bound-after-set Bounds bounds rs a e v h h′ new r old (no q) =
+    rw (getD-set-other bounds a r e 0 q, getD-set-other rs a r v 0 q) old
+
+module _ {k : Ranges} {rs : List ℕ} (w : Within k rs) (ws : Words rs) (a : ℕ) (a8 : a < 8) where
+  -- a register takes a new value, and its range becomes one that the value lies in
+  pub within-put : (x : Range) (v : ℕ) → In x v → Within (put k a x) (set rs a v)
+  within-put x v i = record {
+    lows8 = simp length-set (w .lows8);
+    highs8 = simp length-set (w .highs8);
+    low = λ r r8. lows-bound (i .0) r (w .low r r8) (ℕ-discrete r a);
+    high = λ r r8. highs-bound (i .1) r (w .high r r8) (ℕ-discrete r a);
+  }
+    where
+      lows-bound : x .low ≤ v → (r : ℕ) → low k r ≤ reg rs r → Dec (r ≡ a) → low (put k a x) r ≤ reg (set rs a v) r
+      lows-bound =
+          bound-after-set (λ bound y. bound ≤ y) (k .lows) rs a (x .low) v (omega (arith, w .lows8)) (omega (arith, ws .eight))
+
+      highs-bound : v ≤ x .high → (r : ℕ) → reg rs r ≤ high k r → Dec (r ≡ a) → reg (set rs a v) r ≤ high (put k a x) r
+      highs-bound =
+          bound-after-set (λ bound y. y ≤ bound) (k .highs) rs a (x .high) v (omega (arith, w .highs8)) (omega (arith, ws .eight))
+
+  -- a range becomes another one that the register lies in
+  pub within-narrow : (x : Range) → In x (reg rs a) → Within (put k a x) rs
+  within-narrow x i = subst (λ (s : List ℕ). Within (put k a x) s) (set-getD rs a 0) (within-put x (reg rs a) i)
+
+  -- a register that lies in its range and another lies in what both have in common
+  in-common : (x : Range) → In x (reg rs a) → In (common (rangeOf k a) x) (reg rs a)
+  in-common x i = omega (arith, w .low a a8, w .high a a8)
+
+  -- a range is cut to another one that the register lies in
+  pub within-cut : (x : Range) → In x (reg rs a) → Within (cut k a x) rs
+  unfolding cut
+  within-cut x i =
+      by-cond (λ (k′ : Ranges). Within k′ rs) (isEmpty (common (rangeOf k a) x)) (λ _. w)
+      (λ _. within-narrow (common (rangeOf k a) x) (in-common x i))
+
+-- two ranges are cut at once, each to another one that its register lies in
+pub within-cutBoth : {k : Ranges} {rs : List ℕ} → Within k rs → Words rs
+    → (a : ℕ) → a < 8 → (x : Range) → In x (reg rs a)
+    → (b : ℕ) → b < 8 → (y : Range) → In y (reg rs b)
+    → Within (cutBoth k a x b y) rs
+unfolding cutBoth
+within-cutBoth {k} {rs} w ws a a8 x i b b8 y j =
+    by-cond (λ (k′ : Ranges). Within k′ rs) (isEmpty (common (rangeOf k a) x) || isEmpty (common (rangeOf k b) y))
+    (λ _. w)
+    (λ _. within-narrow first-cut ws b b8 (common (rangeOf k b) y) (in-common w ws b b8 y j))
+  where
+    first-cut : Within (put k a (common (rangeOf k a) x)) rs
+    first-cut = within-narrow w ws a a8 (common (rangeOf k a) x) (in-common w ws a a8 x i)
+
+-- ---- words and bytes that change
+
+below-set : (c : ℕ) (xs : List ℕ) (a v : ℕ) → ((i : ℕ) → getD xs i 0 < c) → v < c → (i : ℕ) → getD (set xs a v) i 0 < c
+below-set c [] a v below v-below i = below i
+below-set c (x ∷ xs) zero v below v-below zero = v-below
+below-set c (x ∷ xs) zero v below v-below (suc i) = below (suc i)
+below-set c (x ∷ xs) (suc a) v below v-below zero = below zero
+below-set c (x ∷ xs) (suc a) v below v-below (suc i) = below-set c xs a v (λ j. below (suc j)) v-below i
+
+-- a register takes a word
+pub words-set : {rs : List ℕ} → Words rs → (a v : ℕ) → v < modulus → Words (set rs a v)
+words-set {rs} ws a v v-below =
+    record { eight = simp length-set (ws .eight); small = below-set modulus rs a v (ws .small) v-below }
+
+-- a number's low bytes are written among bytes
+pub bytes-write : (n x : ℕ) {size : ℕ} {bs : List ℕ} (at : ℕ) → Bytes size bs → Bytes size (writeBytes n x bs at)
+unfolding writeBytes
+bytes-write zero x at b = b
+bytes-write (suc n) x {size} {bs} at b =
+    bytes-write n (x / 256) (suc at)
+    (record { long = simp length-set (b .long); small = below-set 256 bs at (x % 256) (b .small) (omega arith) })
+
+-- n bytes make a number below 2^(8n)
+pub read-below : (n : ℕ) (bs : List ℕ) (at : ℕ) → ((i : ℕ) → getD bs i 0 < 256) → readBytes n bs at < 2 ^ (8 * n)
+unfolding readBytes
+read-below zero bs at below = omega arith
+read-below (suc n) bs at below = rw (power-step n) (omega (arith, below at, read-below n bs (suc at) below))
+  where
+    power-step : (m : ℕ) → 2 ^ (8 * suc m) ≡ 256 * 2 ^ (8 * m)
+    power-step m = ap (λ (e : ℕ). 2 ^ e) (let e : 8 * suc m ≡ 8 + 8 * m = omega arith in e) ∙ pow-add 2 8 (8 * m)

@@ -1,0 +1,180 @@
+-- Sound shapes: what the accuracy of the ranges asks of an instruction, and that every instruction of a file has it.
+-- Assumes nothing.
+use Prim.Native.Nat.{ℕ, zero, suc, _+_, _<_}
+use mathlib.Core.Path.{_≡_, refl, subst}
+use mathlib.Core.Bool.{Bool, true, false}
+use mathlib.Core.List.{List, [], _∷_}
+use mathlib.Core.Option.{Option, none, some, Option·map, Option·getD}
+use borrow.Author.Tests.{ltb-true}
+use lib.ListN.{getD}
+use Rattle.model.specs.declared.Instruction.{Instruction}
+use Rattle.model.specs.declared.Instruction.the-variants.{Halt, Set, Copy, Add, Addi, Sub, Andi, Guard, Shr, Sar, Load, Store, Jump, Branch, Check, Jumpr}
+use Rattle.model.specs.declared.Layout.{Layout}
+use Rattle.model.specs.declared.Range.{Range}
+use Rattle.model.specs.declared.Ranges.{Ranges}
+use Rattle.model.specs.declared.Test.{Test}
+use Rattle.model.specs.declared.Width.{Width}
+use Rattle.model.specs.Words.{modulus, signed}
+use Rattle.model.specs.Ranges.{rangeOf}
+use Rattle.model.specs.Instructions.{reg, Access, Shape, stops, assigns, loads, stores, jumps, branches, checks, jumpsVia, shape}
+use Rattle.model.specs.Step.{shapeAt}
+use Rattle.model.specs.File.{byteAt, isRegister, hasNothing, hasA, hasAB, hasAAmount, hasImm, hasAImm, hasABWImm, provided, rows, widthOf, testOf, decode, instructionAt, instructionIn, instructionCount, layoutIn, programIn}
+use Rattle.model.specs.Rules.{LayoutKept}
+use Rattle.model.specs.Safety.{Words}
+use Rattle.model.proofs.Tests.{and-left, and-right}
+use Rattle.model.proofs.Tabulate.{tabulate-everywhere}
+use Rattle.model.proofs.Registers.{Within, read-below}
+use Rattle.model.proofs.RuleW.{Signed32, signed-signed32}
+use Rattle.model.proofs.Values.{Fits, register-fits, constant-fits, add-fits, addi-fits, sub-fits, and-fits, guard-fits, shr-fits, sar-fits}
+
+-- a register's new value fits its new range, whatever the registers hold of their ranges
+pub record SoundAssignment (a : ℕ) (value : List ℕ → ℕ) (ranged : Ranges → Range) : Type 0 where
+  pub register : a < 8
+  pub fits : {k : Ranges} {rs : List ℕ} → Within k rs → Words rs → Fits (ranged k) (value rs)
+
+-- a load's or store's operands
+pub record SoundAccess (a : ℕ) (ac : Access) : Type 0 where
+  pub register : a < 8
+  pub pointer : ac .pointer < 8
+  pub displacement : Signed32 (ac .displacement)
+
+-- a branch's operands
+pub record SoundBranch (a b : ℕ) : Type 0 where
+  pub left : a < 8
+  pub right : b < 8
+
+-- what is asked of each shape
+abbrev pub Sound : Shape → Type 0
+Sound stops = Unit {0}
+Sound (assigns a value ranged) = SoundAssignment a value ranged
+Sound (loads a ac) = SoundAccess a ac
+Sound (stores a ac) = SoundAccess a ac
+Sound (jumps to) = Unit {0}
+Sound (branches test a b to) = SoundBranch a b
+Sound (checks a) = a < 8
+Sound (jumpsVia a) = a < 8
+
+-- ---- the rows of the instructions' table
+
+abbrev SoundRow : Layout → Option Instruction → Type 0
+SoundRow l none = Unit {0}
+SoundRow l (some i) = Sound (shape l i)
+
+infixr 5 _then_
+data SoundRows (l : Layout) : List (Option Instruction) → Type 0 where
+  no-more : SoundRows l []
+  _then_ : {row : Option Instruction} {more : List (Option Instruction)} → SoundRow l row → SoundRows l more → SoundRows l (row ∷ more)
+
+row-sound : {l : Layout} {table : List (Option Instruction)} → SoundRows l table → (op : ℕ) → SoundRow l (getD table op none)
+row-sound no-more op = tt
+row-sound (row then more) zero = row
+row-sound (row then more) (suc op) = row-sound more op
+
+module _ (l : Layout) where
+  provided-sound : (test : Bool) (row : Option Instruction) → (test ≡ true → SoundRow l row) → SoundRow l (provided test row)
+  provided-sound true row sound = sound refl
+  provided-sound false row sound = tt
+
+  mapped-sound : {A : Type 0} (f : A → Instruction) (o : Option A) → ((x : A) → Sound (shape l (f x))) → SoundRow l (Option·map f o)
+  mapped-sound f none sound = tt
+  mapped-sound f (some x) sound = sound x
+
+module _ {l : Layout} (lk : LayoutKept l) (a b w imm : ℕ) (imm-word : imm < modulus) where
+  -- a row is sound if it is so where the bytes that it uses are in range: a alone, a and imm, a and w, a and b, or all four
+  uses-a : (row : Option Instruction) → (a < 8 → SoundRow l row)
+      → SoundRow l (provided (hasA a b w imm) row)
+  uses-a row sound =
+      provided-sound l (hasA a b w imm) row
+      (λ t. sound (search (and-left, and-right, ltb-true)))
+
+  uses-a-imm : (row : Option Instruction) → (a < 8 → SoundRow l row)
+      → SoundRow l (provided (hasAImm a b w) row)
+  uses-a-imm row sound =
+      provided-sound l (hasAImm a b w) row (λ t. sound (search (and-left, and-right, ltb-true)))
+
+  uses-a-w : (row : Option Instruction) → (a < 8 → SoundRow l row)
+      → SoundRow l (provided (hasAAmount a b w imm) row)
+  uses-a-w row sound =
+      provided-sound l (hasAAmount a b w imm) row
+      (λ t. sound (search (and-left, and-right, ltb-true)))
+
+  uses-a-b : (row : Option Instruction) → (a < 8 → b < 8 → SoundRow l row)
+      → SoundRow l (provided (hasAB a b w imm) row)
+  uses-a-b row sound =
+      provided-sound l (hasAB a b w imm) row
+      (λ t. sound (search (and-left, and-right, ltb-true)) (search (and-left, and-right, ltb-true)))
+
+  uses-all : (row : Option Instruction) → (a < 8 → b < 8 → SoundRow l row) → SoundRow l (provided (hasABWImm a b) row)
+  uses-all row sound =
+      provided-sound l (hasABWImm a b) row
+      (λ t. sound (ltb-true a 8 (and-left (isRegister a) (isRegister b) t)) (ltb-true b 8 (and-right (isRegister a) (isRegister b) t)))
+
+  -- a new value that is made from the registers a, or a and b, fits if it does so where they fit
+  from-a : {value : List ℕ → ℕ} {ranged : Ranges → Range} → a < 8
+      → ((k : Ranges) (rs : List ℕ) → Fits (rangeOf k a) (reg rs a) → Fits (ranged k) (value rs)) → SoundAssignment a value ranged
+  from-a a8 fits = record { register = a8; fits = λ {k} {rs} within words. fits k rs (register-fits within words a a8) }
+
+  from-a-b : {value : List ℕ → ℕ} {ranged : Ranges → Range} → a < 8 → b < 8
+      → ((k : Ranges) (rs : List ℕ) → Fits (rangeOf k a) (reg rs a) → Fits (rangeOf k b) (reg rs b) → Fits (ranged k) (value rs))
+      → SoundAssignment a value ranged
+  from-a-b a8 b8 fits = record {
+    register = a8;
+    fits = λ {k} {rs} within words. fits k rs (register-fits within words a a8) (register-fits within words b b8);
+  }
+
+  imm-signed : Signed32 (signed imm)
+  imm-signed = signed-signed32 imm imm-word
+
+  access-sound : a < 8 → b < 8 → (v : Width) → SoundAccess a (record { pointer = b; width = v; displacement = signed imm })
+  access-sound a8 b8 v = record { register = a8; pointer = b8; displacement = imm-signed }
+
+  rows-sound : SoundRows l (rows a b w imm)
+  unfolding rows shape
+  rows-sound =
+      provided-sound l (hasNothing a b w imm) (some Halt) (λ _. tt)
+      then uses-a-imm (some (Set a imm)) (λ a8. from-a a8 (λ k rs x. constant-fits imm imm-word))
+      then uses-a-b (some (Copy a b)) (λ a8 b8. from-a-b a8 b8 (λ k rs x y. y))
+      then uses-a-b (some (Add a b)) (λ a8 b8. from-a-b a8 b8 (λ k rs x y. add-fits x y))
+      then uses-a-imm (some (Addi a (signed imm))) (λ a8. from-a a8 (λ k rs x. addi-fits (signed imm) imm-signed x))
+      then uses-a-b (some (Sub a b)) (λ a8 b8. from-a-b a8 b8 (λ k rs x y. sub-fits x y))
+      then uses-a-imm (some (Andi a imm)) (λ a8. from-a a8 (λ k rs x. and-fits imm x))
+      then uses-a (some (Guard a)) (λ a8. from-a a8 (λ k rs x. guard-fits lk x))
+      then uses-a-w (some (Shr a w)) (λ a8. from-a a8 (λ k rs x. shr-fits w x))
+      then uses-a-w (some (Sar a w)) (λ a8. from-a a8 (λ k rs x. sar-fits w x))
+      then uses-all _ (λ a8 b8. mapped-sound l (λ (v : Width). Load a b v (signed imm)) (widthOf w) (access-sound a8 b8))
+      then uses-all _ (λ a8 b8. mapped-sound l (λ (v : Width). Store a b v (signed imm)) (widthOf w) (access-sound a8 b8))
+      then provided-sound l (hasImm a b w) (some (Jump imm)) (λ _. tt)
+      then uses-all _ (λ a8 b8. mapped-sound l (λ (t : Test). Branch a b t imm) (testOf w) (λ t. record { left = a8; right = b8 }))
+      then uses-a (some (Check a)) (λ a8. a8)
+      then uses-a (some (Jumpr a)) (λ a8. a8)
+      then no-more
+
+  decoded-row-sound : (op : ℕ) → SoundRow l (decode op a b w imm)
+  unfolding decode
+  decoded-row-sound op = row-sound rows-sound op
+
+-- ---- the instructions of a file
+
+-- what is decoded is sound
+pub decode-sound : {l : Layout} → LayoutKept l → (op a b w imm : ℕ) → imm < modulus
+    → (i : Instruction) → decode op a b w imm ≡ some i → Sound (shape l i)
+decode-sound {l} lk op a b w imm imm-word i e = subst (SoundRow l) e (decoded-row-sound lk a b w imm imm-word op)
+
+module _ (file : List ℕ) (bytes : (i : ℕ) → byteAt file i < 256) {l : Layout} (lk : LayoutKept l) where
+  -- the instruction at an index of the file is sound
+  pub instruction-sound : (j : ℕ) (i : Instruction) → instructionIn file j ≡ some i → Sound (shape l i)
+  unfolding instructionIn
+  instruction-sound j i e = decode-sound lk _ _ _ _ _ (read-below 4 file (instructionAt j + 4) bytes) i e
+
+  or-halt-sound : (j : ℕ) (o : Option Instruction) → instructionIn file j ≡ o → Sound (shape l (Option·getD o Halt))
+  unfolding shape
+  or-halt-sound j none e = tt
+  or-halt-sound j (some i) e = instruction-sound j i e
+
+-- every index of a file's module has a sound shape
+pub code-sound : (file : List ℕ) → ((i : ℕ) → byteAt file i < 256) → LayoutKept (layoutIn file)
+    → (j : ℕ) → Sound (shapeAt (programIn file) j)
+unfolding programIn shape
+code-sound file bytes lk j =
+    tabulate-everywhere (λ (i : Instruction). Sound (shape (layoutIn file) i)) (λ i. Option·getD (instructionIn file i) Halt) Halt
+    (λ i. or-halt-sound file bytes lk i (instructionIn file i) refl) tt 0 (instructionCount file) j

@@ -1,0 +1,19 @@
+-- Lists made from their indexes. Assumes nothing.
+use Prim.Native.Nat.{ℕ, zero, suc}
+use mathlib.Core.Path.{_≡_, refl, ap}
+use lib.ListN.{length, getD}
+use Rattle.model.specs.File.{tabulate}
+
+-- a tabulated list is as long as it says
+pub length-tabulate : {A : Type 0} (i n : ℕ) (f : ℕ → A) → length (tabulate i n f) ≡ n
+unfolding tabulate
+length-tabulate i zero f = refl
+length-tabulate i (suc n) f = ap suc (length-tabulate (suc i) n f)
+
+-- what holds of every entry of a table, and of what stands past its end, holds of what is looked up
+pub tabulate-everywhere : {A : Type 0} (P : A → Type 0) (f : ℕ → A) (d : A) → ((i : ℕ) → P (f i)) → P d
+    → (i n j : ℕ) → P (getD (tabulate i n f) j d)
+unfolding tabulate
+tabulate-everywhere P f d entries past i zero j = past
+tabulate-everywhere P f d entries past i (suc n) zero = entries i
+tabulate-everywhere P f d entries past i (suc n) (suc j) = tabulate-everywhere P f d entries past (suc i) n j

@@ -1,0 +1,248 @@
+-- The module file: fields, layout, instructions and targets, and refusals 1 to 7 in their order. Assumes nothing.
+use Prim.Native.Nat.{ℕ, zero, suc, _+_, _-_, _*_, _/_, _%_, _^_}
+use mathlib.Core.Bool.{Bool, true, false, cond, not, _&&_, _||_}
+use mathlib.Core.List.{List, [], _∷_, _++_}
+use mathlib.Core.Option.{Option, none, some, Option·map, Option·getD}
+use lib.Dec.{leb, ltb, eqb}
+use lib.ListN.{length, getD, take, drop}
+use Rattle.model.specs.declared.Instruction.{Instruction}
+use Rattle.model.specs.declared.Instruction.the-variants.{Halt, Set, Copy, Add, Addi, Sub, Andi, Guard, Shr, Sar, Load, Store, Jump, Branch, Check, Jumpr}
+use Rattle.model.specs.declared.Layout.{Layout}
+use Rattle.model.specs.declared.Ranges.{Ranges}
+use Rattle.model.specs.declared.Target.{Target}
+use Rattle.model.specs.declared.Test.{Test}
+use Rattle.model.specs.declared.Test.the-variants.{Equal, Below, SignedBelow}
+use Rattle.model.specs.declared.Width.{Width}
+use Rattle.model.specs.declared.Width.the-variants.{One, Two, Four}
+use Rattle.model.specs.Quantifiers.{anyOf, allBelow, anyBelow}
+use Rattle.model.specs.Words.{modulus, signed, readBytes}
+use Rattle.model.specs.Obligations.{Fault, Obligation, owes, firstFault, each}
+use Rattle.model.specs.Ranges.{low, high, unknown}
+use Rattle.model.specs.Program.{Program}
+
+-- the byte at an offset; 0 past the end
+abbrev pub byteAt : List ℕ → ℕ → ℕ
+byteAt file at = getD file at 0
+
+-- ---- fields: "A field is a one-byte tag, a two-byte length and that many bytes of value."
+
+abbrev pub fieldLength : List ℕ → ℕ → ℕ
+fieldLength file at = readBytes 2 file (at + 1)
+
+abbrev pub valueAt : ℕ → ℕ
+valueAt at = at + 3
+
+abbrev pub fieldEnd : List ℕ → ℕ → ℕ
+fieldEnd file at = valueAt at + fieldLength file at
+
+-- "n from 1 to 4,096"; "k from 1 to 256"
+abbrev pub mostInstructions : ℕ
+mostInstructions = 4096
+
+abbrev pub mostTargets : ℕ
+mostTargets = 256
+
+-- a number of units, from one to the most
+abbrev pub isMultiple : ℕ → ℕ → ℕ → Bool
+isMultiple unit most n = eqb (n % unit) 0 && leb 1 (n / unit) && leb (n / unit) most
+
+-- the lengths that are listed for a tag: "tag 01 hex, length 12", "tag 02 hex, length 8n", "tag 03 hex, length 68k"
+unfoldable pub isListed : ℕ → ℕ → Bool
+isListed tag n =
+    cond (eqb tag 1) (eqb n 12)
+    (cond (eqb tag 2) (isMultiple 8 mostInstructions n)
+    (cond (eqb tag 3) (isMultiple 68 mostTargets n) false))
+
+-- "A field is judged 1 (header), 2, 3, 1 (value).", each at the offset of the field
+unfoldable pub field : List ℕ → ℕ → ℕ → List Obligation
+field file at tag =
+    owes 1 at (leb (valueAt at) (length file))
+    ∷ owes 2 at (eqb (byteAt file at) tag)
+    ∷ owes 3 at (isListed tag (fieldLength file at))
+    ∷ owes 1 at (leb (fieldEnd file at) (length file))
+    ∷ []
+
+-- "The field reader hands back the very stretch of module bytes that is the field's value."; none of a field that is refused
+abbrev pub unlessFault : Option Fault → List ℕ → List ℕ
+unlessFault none bytes = bytes
+unlessFault (some f) bytes = []
+
+unfoldable pub fieldValue : List ℕ → ℕ → ℕ → List ℕ
+fieldValue file at tag =
+    unlessFault (firstFault (field file at tag)) (take (fieldLength file at) (drop (valueAt at) file))
+
+-- "Exactly three fields stand in this order": the instructions' field stands behind the layout's three bytes of header and
+-- twelve of value, the targets' field behind the instructions'
+abbrev pub codeStart : ℕ
+codeStart = 15
+
+abbrev pub targetsAt : List ℕ → ℕ
+targetsAt file = fieldEnd file codeStart
+
+abbrev pub instructionCount : List ℕ → ℕ
+instructionCount file = fieldLength file codeStart / 8
+
+abbrev pub targetCount : List ℕ → ℕ
+targetCount file = fieldLength file (targetsAt file) / 68
+
+-- ---- layout: "base, size, guard, 32 bits each"
+
+abbrev pub layoutIn : List ℕ → Layout
+layoutIn file = record { base = readBytes 4 file 3; size = readBytes 4 file 7; guard = readBytes 4 file 11 }
+
+-- "Size is a power of two from 256 to 65,536. Guard is 0 to 4,096. Base is a multiple of size, base ≥ guard, and
+-- base + size + guard ≤ 2^32."
+unfoldable pub isLayout : Layout → Bool
+isLayout l =
+    anyBelow 9 (λ k. eqb (l .size) (2 ^ (8 + k))) && leb (l .guard) 4096 && eqb (l .base % l .size) 0
+    && leb (l .guard) (l .base) && leb (l .base + l .size + l .guard) modulus
+
+-- ---- instructions: "Bytes op, a, b, w, then imm, 32 bits."
+
+-- "a and b name registers 0 to 7"; "w 0–31"; "unused ones are zero"
+abbrev pub isRegister : ℕ → Bool
+isRegister r = ltb r 8
+
+abbrev pub isAmount : ℕ → Bool
+isAmount w = ltb w 32
+
+abbrev pub isUnused : ℕ → Bool
+isUnused x = eqb x 0
+
+-- "For load and store w is 1, 2 or 4."
+abbrev pub widthOf : ℕ → Option Width
+widthOf w = getD (none ∷ some One ∷ some Two ∷ none ∷ some Four ∷ []) w none
+
+-- "For branch w is 0 (a = b), 1 (a < b unsigned) or 2 (a < b signed)."
+abbrev pub testOf : ℕ → Option Test
+testOf w = getD (some Equal ∷ some Below ∷ some SignedBelow ∷ []) w none
+
+abbrev pub provided : Bool → Option Instruction → Option Instruction
+provided true i = i
+provided false i = none
+
+-- "The opcode decides which of the bytes a, b, w and imm are used; unused ones are zero.": which operands are there, and
+-- within their ranges (where w is a width or a test it is looked up by itself)
+abbrev pub hasNothing : ℕ → ℕ → ℕ → ℕ → Bool
+hasNothing a b w imm = isUnused a && isUnused b && isUnused w && isUnused imm
+
+abbrev pub hasA : ℕ → ℕ → ℕ → ℕ → Bool
+hasA a b w imm = isRegister a && isUnused b && isUnused w && isUnused imm
+
+abbrev pub hasAB : ℕ → ℕ → ℕ → ℕ → Bool
+hasAB a b w imm = isRegister a && isRegister b && isUnused w && isUnused imm
+
+abbrev pub hasAAmount : ℕ → ℕ → ℕ → ℕ → Bool
+hasAAmount a b w imm = isRegister a && isUnused b && isAmount w && isUnused imm
+
+abbrev pub hasImm : ℕ → ℕ → ℕ → Bool
+hasImm a b w = isUnused a && isUnused b && isUnused w
+
+abbrev pub hasAImm : ℕ → ℕ → ℕ → Bool
+hasAImm a b w = isRegister a && isUnused b && isUnused w
+
+abbrev pub hasABWImm : ℕ → ℕ → Bool
+hasABWImm a b = isRegister a && isRegister b
+
+-- one row an opcode, in order
+unfoldable pub rows : ℕ → ℕ → ℕ → ℕ → List (Option Instruction)
+rows a b w imm =
+    provided (hasNothing a b w imm) (some Halt)
+    ∷ provided (hasAImm a b w) (some (Set a imm))
+    ∷ provided (hasAB a b w imm) (some (Copy a b))
+    ∷ provided (hasAB a b w imm) (some (Add a b))
+    ∷ provided (hasAImm a b w) (some (Addi a (signed imm)))
+    ∷ provided (hasAB a b w imm) (some (Sub a b))
+    ∷ provided (hasAImm a b w) (some (Andi a imm))
+    ∷ provided (hasA a b w imm) (some (Guard a))
+    ∷ provided (hasAAmount a b w imm) (some (Shr a w))
+    ∷ provided (hasAAmount a b w imm) (some (Sar a w))
+    ∷ provided (hasABWImm a b) (Option·map (λ (v : Width). Load a b v (signed imm)) (widthOf w))
+    ∷ provided (hasABWImm a b) (Option·map (λ (v : Width). Store a b v (signed imm)) (widthOf w))
+    ∷ provided (hasImm a b w) (some (Jump imm))
+    ∷ provided (hasABWImm a b) (Option·map (λ (t : Test). Branch a b t imm) (testOf w))
+    ∷ provided (hasA a b w imm) (some (Check a))
+    ∷ provided (hasA a b w imm) (some (Jumpr a))
+    ∷ []
+
+-- none for an "opcode above 15, operand out of range, unused byte not zero"
+unfoldable pub decode : ℕ → ℕ → ℕ → ℕ → ℕ → Option Instruction
+decode op a b w imm = getD (rows a b w imm) op none
+
+abbrev pub instructionAt : ℕ → ℕ
+instructionAt i = valueAt codeStart + 8 * i
+
+unfoldable pub instructionIn : List ℕ → ℕ → Option Instruction
+instructionIn file i =
+    decode (byteAt file (instructionAt i)) (byteAt file (instructionAt i + 1)) (byteAt file (instructionAt i + 2))
+    (byteAt file (instructionAt i + 3)) (readBytes 4 file (instructionAt i + 4))
+
+abbrev pub isInstruction : List ℕ → ℕ → Bool
+isInstruction file i = anyOf (instructionIn file i) (λ x. true)
+
+-- ---- targets (doors): "Index (16 bits), kind (8 bits: 0 inner, 1 open), a zero byte, then for r0 to r7 a lowest and a
+-- highest value, 32 bits each: the claim."
+
+-- f i, f (i + 1), and so on, n of them
+unfoldable pub tabulate : {A : Type 0} → ℕ → ℕ → (ℕ → A) → List A
+tabulate i zero f = []
+tabulate i (suc n) f = f i ∷ tabulate (suc i) n f
+
+abbrev pub targetStart : List ℕ → ℕ → ℕ
+targetStart file j = valueAt (targetsAt file) + 68 * j
+
+abbrev pub targetIndex : List ℕ → ℕ → ℕ
+targetIndex file j = readBytes 2 file (targetStart file j)
+
+abbrev pub targetKind : List ℕ → ℕ → ℕ
+targetKind file j = byteAt file (targetStart file j + 2)
+
+unfoldable pub claimIn : List ℕ → ℕ → Ranges
+claimIn file j = record {
+  lows = tabulate 0 8 (λ r. readBytes 4 file (targetStart file j + 4 + 8 * r));
+  highs = tabulate 0 8 (λ r. readBytes 4 file (targetStart file j + 8 + 8 * r));
+}
+
+unfoldable pub targetIn : List ℕ → ℕ → Target
+targetIn file j = record { index = targetIndex file j; indirect = eqb (targetKind file j) 1; claim = claimIn file j }
+
+-- "An open door claims 'anything', 0 to 2^32 − 1, for each register."
+abbrev pub indirectClaim : Ranges
+indirectClaim = unknown
+
+abbrev pub isIndirectClaim : Ranges → Bool
+isIndirectClaim k = allBelow 8 (λ r. eqb (low k r) (low indirectClaim r) && eqb (high k r) (high indirectClaim r))
+
+-- "The first door is open and has index 0."; "Indexes rise strictly"
+abbrev pub isInOrder : List ℕ → ℕ → Bool
+isInOrder file zero = eqb (targetIndex file 0) 0 && eqb (targetKind file 0) 1
+isInOrder file (suc j) = ltb (targetIndex file j) (targetIndex file (suc j))
+
+-- "and are below n. No lowest exceeds its highest."
+unfoldable pub isGoodTarget : List ℕ → ℕ → Bool
+isGoodTarget file j =
+    ltb (targetIndex file j) (instructionCount file) && ltb (targetKind file j) 2 && eqb (byteAt file (targetStart file j + 3)) 0
+    && allBelow 8 (λ r. leb (low (claimIn file j) r) (high (claimIn file j) r))
+    && (not (eqb (targetKind file j) 1) || isIndirectClaim (claimIn file j))
+    && isInOrder file j
+
+-- ---- the module
+
+-- refusals 1 to 7: the three fields in order, "Then come 4, 5, 6, 7 over the whole module."
+unfoldable pub readable : List ℕ → List Obligation
+readable file =
+    field file 0 1
+    ++ (field file codeStart 2
+    ++ (field file (targetsAt file) 3
+    ++ (owes 4 (fieldEnd file (targetsAt file)) (eqb (length file) (fieldEnd file (targetsAt file)))
+    ∷ owes 5 0 (isLayout (layoutIn file))
+    ∷ (each (instructionCount file) (λ i. owes 6 i (isInstruction file i) ∷ [])
+    ++ each (targetCount file) (λ j. owes 7 j (isGoodTarget file j) ∷ [])))))
+
+-- the module that a file holds; of a file that is not readable it is of no consequence
+unfoldable pub programIn : List ℕ → Program
+programIn file = record {
+  layout = layoutIn file;
+  code = tabulate 0 (instructionCount file) (λ i. Option·getD (instructionIn file i) Halt);
+  targets = tabulate 0 (targetCount file) (targetIn file);
+}

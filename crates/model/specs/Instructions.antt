@@ -1,0 +1,139 @@
+-- The sixteen instructions: document 01's table, both columns, and what else the rules ask of an instruction.
+-- Assumes nothing.
+use Prim.Native.Nat.{ℕ, zero, suc, _+_, _-_, _*_, _/_, _%_, _^_, min}
+use mathlib.Core.Bool.{Bool, true, false, cond}
+use mathlib.Core.List.{List}
+use mathlib.Core.Option.{Option, none, some}
+use lib.Dec.{leb, ltb, eqb}
+use lib.IntN.{ℤ, pos, negsuc, _+ℤ_, subℕ}
+use lib.Signed.{ltZ}
+use lib.ListN.{getD}
+use Rattle.model.specs.declared.Instruction.{Instruction}
+use Rattle.model.specs.declared.Instruction.the-variants.{Halt, Set, Copy, Add, Addi, Sub, Andi, Guard, Shr, Sar, Load, Store, Jump, Branch, Check, Jumpr}
+use Rattle.model.specs.declared.Layout.{Layout}
+use Rattle.model.specs.declared.Range.{Range}
+use Rattle.model.specs.declared.Ranges.{Ranges}
+use Rattle.model.specs.declared.Test.{Test}
+use Rattle.model.specs.declared.Test.the-variants.{Equal, Below, SignedBelow}
+use Rattle.model.specs.declared.Width.{Width}
+use Rattle.model.specs.declared.Width.the-variants.{One, Two, Four}
+use Rattle.model.specs.Words.{wrap, signed, arithmeticShift, bitwiseAnd}
+use Rattle.model.specs.Ranges.{range, low, high, rangeOf, put, ruleW, regionRange, guardRange, shrRange, sarRange, cut, ruleB}
+
+-- "For load and store w is 1, 2 or 4."
+abbrev pub bytesOf : Width → ℕ
+bytesOf One = 1
+bytesOf Two = 2
+bytesOf Four = 4
+
+-- a load's range after it: "0 to 2^(8w) − 1"
+abbrev pub loadRange : Width → Range
+loadRange w = range 0 (2 ^ (8 * bytesOf w) - 1)
+
+-- "For branch w is 0 (a = b), 1 (a < b unsigned) or 2 (a < b signed)."
+unfoldable pub holds : Test → ℕ → ℕ → Bool
+holds Equal x y = eqb x y
+holds Below x y = ltb x y
+holds SignedBelow x y = ltZ (signed x) (signed y)
+
+-- what a register holds
+abbrev pub reg : List ℕ → ℕ → ℕ
+reg rs r = getD rs r 0
+
+-- guard: "a := base + (a mod size)"
+unfoldable pub guarded : Layout → ℕ → ℕ
+guarded l x = l .base + x % l .size
+
+-- an access: w bytes at b + imm
+pub record Access : Type 0 where
+  pub pointer : ℕ
+  pub width : Width
+  pub displacement : ℤ
+
+-- What an instruction is, seen by what it does. `assigns` has both columns of the table: the register's new value, from the
+-- registers before, and its new range, from the ranges before.
+pub data Shape : Type 0 where
+  stops : Shape
+  assigns : ℕ → (List ℕ → ℕ) → (Ranges → Range) → Shape
+  loads : ℕ → Access → Shape
+  stores : ℕ → Access → Shape
+  jumps : ℕ → Shape
+  branches : Test → ℕ → ℕ → ℕ → Shape
+  checks : ℕ → Shape
+  jumpsVia : ℕ → Shape
+
+-- the table
+unfoldable pub shape : Layout → Instruction → Shape
+shape l Halt = stops
+shape l (Set a imm) = assigns a (λ rs. imm) (λ k. range imm imm)
+shape l (Copy a b) = assigns a (λ rs. reg rs b) (λ k. rangeOf k b)
+shape l (Add a b) =
+    assigns a (λ rs. wrap (pos (reg rs a) +ℤ pos (reg rs b)))
+    (λ k. ruleW (pos (low k a) +ℤ pos (low k b)) (pos (high k a) +ℤ pos (high k b)))
+shape l (Addi a imm) =
+    assigns a (λ rs. wrap (pos (reg rs a) +ℤ imm)) (λ k. ruleW (pos (low k a) +ℤ imm) (pos (high k a) +ℤ imm))
+shape l (Sub a b) =
+    assigns a (λ rs. wrap (subℕ (reg rs a) (reg rs b))) (λ k. ruleW (subℕ (low k a) (high k b)) (subℕ (high k a) (low k b)))
+shape l (Andi a imm) = assigns a (λ rs. bitwiseAnd 32 (reg rs a) imm) (λ k. range 0 (min (high k a) imm))
+shape l (Guard a) = assigns a (λ rs. guarded l (reg rs a)) (λ k. guardRange l (rangeOf k a))
+shape l (Shr a w) = assigns a (λ rs. reg rs a / 2 ^ w) (λ k. shrRange (rangeOf k a) w)
+shape l (Sar a w) = assigns a (λ rs. arithmeticShift (reg rs a) w) (λ k. sarRange (rangeOf k a) w)
+shape l (Load a b w imm) = loads a (record { pointer = b; width = w; displacement = imm })
+shape l (Store a b w imm) = stores a (record { pointer = b; width = w; displacement = imm })
+shape l (Jump to) = jumps to
+shape l (Branch a b test to) = branches test a b to
+shape l (Check a) = checks a
+shape l (Jumpr a) = jumpsVia a
+
+-- what the rules ask of an instruction: the access it makes, the index that a jump or branch names, the register that a jumpr
+-- goes by, the register that a check looks at, and whether it can go on to the next index
+pub record Traits : Type 0 where
+  pub access : Option Access
+  pub names : Option ℕ
+  pub goesBy : Option ℕ
+  pub looksAt : Option ℕ
+  pub falls : Bool
+
+abbrev pub has : Option Access → Option ℕ → Option ℕ → Option ℕ → Bool → Traits
+has ac n g k f = record { access = ac; names = n; goesBy = g; looksAt = k; falls = f }
+
+abbrev pub traits : Shape → Traits
+traits stops = has none none none none false
+traits (assigns a value ranged) = has none none none none true
+traits (loads a ac) = has (some ac) none none none true
+traits (stores a ac) = has (some ac) none none none true
+traits (jumps to) = has none (some to) none none false
+traits (branches test a b to) = has none (some to) none none true
+traits (checks a) = has none none none (some a) true
+traits (jumpsVia a) = has none none (some a) none false
+
+abbrev pub isZero : ℤ → Bool
+isZero (pos zero) = true
+isZero (pos (suc n)) = false
+isZero (negsuc n) = false
+
+-- "Rule N: after a load or store with imm = 0, b's range is cut to DB to DL."
+unfoldable pub ruleN : Layout → Access → Ranges → Ranges
+ruleN l ac k = cond (isZero (ac .displacement)) (cut k (ac .pointer) (regionRange l)) k
+
+-- the ranges along the edge to the next index ("A load with a = b keeps the loaded range instead."), and
+-- along the edge that a jump or taken branch takes
+unfoldable pub afterNext : Layout → Shape → Ranges → Ranges
+afterNext l stops k = k
+afterNext l (assigns a value ranged) k = put k a (ranged k)
+afterNext l (loads a ac) k = put (ruleN l ac k) a (loadRange (ac .width))
+afterNext l (stores a ac) k = ruleN l ac k
+afterNext l (jumps to) k = k
+afterNext l (branches test a b to) k = ruleB test false a b k
+afterNext l (checks a) k = k
+afterNext l (jumpsVia a) k = k
+
+unfoldable pub afterTaken : Shape → Ranges → Ranges
+afterTaken stops k = k
+afterTaken (assigns a value ranged) k = k
+afterTaken (loads a ac) k = k
+afterTaken (stores a ac) k = k
+afterTaken (jumps to) k = k
+afterTaken (branches test a b to) k = ruleB test true a b k
+afterTaken (checks a) k = k
+afterTaken (jumpsVia a) k = k

@@ -1,0 +1,15 @@
+pub mod Quantifiers
+pub mod Words
+pub mod Obligations
+pub mod Answers
+pub mod Ranges
+pub mod Program
+pub mod Instructions
+pub mod Step
+pub mod File
+pub mod Judgement
+pub mod Run
+pub mod Rules
+pub mod Walk
+pub mod Safety
+pub mod Outcomes

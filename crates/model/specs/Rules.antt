@@ -1,0 +1,119 @@
+-- Every rule of document 01, stated rule by rule: what a module keeps where `judged` names no fault, and what a run asks for.
+-- Assumes nothing.
+use Prim.Native.Nat.{ℕ, suc, _+_, _-_, _*_, _^_, _≤_, _<_}
+use mathlib.Core.Path.{_≡_}
+use mathlib.Core.Bool.{true, false}
+use mathlib.Core.List.{List}
+use mathlib.Core.Option.{Option, none, some}
+use lib.IntN.{pos, _+ℤ_}
+use lib.Signed.{_≤ℤ_}
+use lib.ListN.{length}
+use Rattle.model.specs.declared.Instruction.{Instruction}
+use Rattle.model.specs.declared.Layout.{Layout}
+use Rattle.model.specs.declared.Machine.{Machine}
+use Rattle.model.specs.declared.Ranges.{Ranges}
+use Rattle.model.specs.declared.Target.{Target}
+use Rattle.model.specs.Words.{modulus}
+use Rattle.model.specs.Ranges.{low, high}
+use Rattle.model.specs.Program.{Program, targetAt, isTarget}
+use Rattle.model.specs.Instructions.{bytesOf, Access, Traits}
+use Rattle.model.specs.File.{byteAt, fieldLength, valueAt, fieldEnd, mostInstructions, mostTargets, codeStart, targetsAt, instructionCount, targetCount, layoutIn, instructionIn, targetStart, targetIndex, targetKind, claimIn, indirectClaim, programIn}
+use Rattle.model.specs.Judgement.{traitsAt, knownAt, nextRanges, takenRanges, checkedBefore}
+
+-- 1, 2, 3: a field stands whole at its offset, with its tag and a length that is listed
+pub record FieldKept (file : List ℕ) (at tag : ℕ) (Listed : ℕ → Type 0) : Type 0 where
+  pub header : valueAt at ≤ length file
+  pub tagged : byteAt file at ≡ tag
+  pub listed : Listed (fieldLength file at)
+  pub value : fieldEnd file at ≤ length file
+
+-- "length 8n", "n from 1 to 4,096": unit bytes each, from one to most of them
+abbrev pub SomeOf : ℕ → ℕ → ℕ → Type 0
+SomeOf unit most len = (n : ℕ) × (1 ≤ n) × (n ≤ most) × (len ≡ unit * n)
+
+-- 5
+pub record LayoutKept (l : Layout) : Type 0 where
+  pub power : (k : ℕ) × (8 ≤ k) × (k ≤ 16) × (l .size ≡ 2 ^ k)
+  pub guard : l .guard ≤ 4096
+  pub aligned : (q : ℕ) × (l .base ≡ q * l .size)
+  pub below : l .guard ≤ l .base
+  pub above : l .base + l .size + l .guard ≤ modulus
+
+-- 6: the eight bytes at an index are an instruction
+abbrev pub InstructionKept : List ℕ → ℕ → Type 0
+InstructionKept file i = (x : Instruction) × (instructionIn file i ≡ some x)
+
+-- 7
+pub record TargetKept (file : List ℕ) (j : ℕ) : Type 0 where
+  pub inside : targetIndex file j < instructionCount file
+  pub kind : targetKind file j < 2
+  pub zero-byte : byteAt file (targetStart file j + 3) ≡ 0
+  pub ordered : (r : ℕ) → r < 8 → low (claimIn file j) r ≤ high (claimIn file j) r
+  pub indirect : targetKind file j ≡ 1 → (r : ℕ) → r < 8
+      → (low (claimIn file j) r ≡ low indirectClaim r) × (high (claimIn file j) r ≡ high indirectClaim r)
+  pub first : j ≡ 0 → (targetIndex file 0 ≡ 0) × (targetKind file 0 ≡ 1)
+  pub rising : (i : ℕ) → j ≡ suc i → targetIndex file i < targetIndex file (suc i)
+
+-- 12: after an instruction that does not go on to the next index there is a target
+abbrev pub Reachable : Program → ℕ → Type 0
+Reachable p i = (j : ℕ) → i ≡ suc j → traitsAt p j .falls ≡ false → isTarget (p .targets) (suc j) ≡ true
+
+-- 9: a jumpr is no target, and a check of its register stands just before it
+abbrev pub Checked : Program → ℕ → Type 0
+Checked p i = (a : ℕ) → traitsAt p i .goesBy ≡ some a → (checkedBefore p i ≡ some a) × (isTarget (p .targets) i ≡ false)
+
+-- 10: an access stays in the region and its guard zones, whatever the pointer holds of its range
+pub record Contained (l : Layout) (k : Ranges) (ac : Access) : Type 0 where
+  pub lowest : pos (l .base - l .guard) ≤ℤ (pos (low k (ac .pointer)) +ℤ ac .displacement)
+  pub highest : (pos (high k (ac .pointer)) +ℤ ac .displacement +ℤ pos (bytesOf (ac .width) - 1)) ≤ℤ pos (l .base + l .size - 1 + l .guard)
+
+abbrev pub AccessContained : Program → ℕ → Type 0
+AccessContained p i = (ac : Access) → traitsAt p i .access ≡ some ac → Contained (p .layout) (knownAt p i) ac
+
+-- 8: the index that a jump or branch names is a target
+abbrev pub JumpsToTarget : Program → ℕ → Type 0
+JumpsToTarget p i = (to : ℕ) → traitsAt p i .names ≡ some to → isTarget (p .targets) to ≡ true
+
+-- 13: the last instruction does not go on to the next index
+abbrev pub StaysInside : Program → ℕ → Type 0
+StaysInside p i = traitsAt p i .falls ≡ true → i + 1 ≡ length (p .code) → ⊥
+
+-- 11: along an edge that ends at a target, every range lies within its claim
+abbrev pub LiesWithin : Ranges → Ranges → Type 0
+LiesWithin k claim = (r : ℕ) → r < 8 → (low claim r ≤ low k r) × (high k r ≤ high claim r)
+
+pub record ClaimsKept (p : Program) (i : ℕ) : Type 0 where
+  pub taken : (to : ℕ) → traitsAt p i .names ≡ some to → (t : Target) → targetAt (p .targets) to ≡ some t
+      → LiesWithin (takenRanges p i) (t .claim)
+  pub next : traitsAt p i .falls ≡ true → (t : Target) → targetAt (p .targets) (i + 1) ≡ some t
+      → LiesWithin (nextRanges p i) (t .claim)
+
+-- rules 8 to 13 at an index
+pub record IndexKept (p : Program) (i : ℕ) : Type 0 where
+  pub reachable : Reachable p i
+  pub checked : Checked p i
+  pub contained : AccessContained p i
+  pub to-target : JumpsToTarget p i
+  pub inside : StaysInside p i
+  pub claims : ClaimsKept p i
+
+-- rules 1 to 7, over every field, instruction and target
+pub record FileKept (file : List ℕ) : Type 0 where
+  pub layout-field : FieldKept file 0 1 (λ n. n ≡ 12)
+  pub code-field : FieldKept file codeStart 2 (SomeOf 8 mostInstructions)
+  pub targets-field : FieldKept file (targetsAt file) 3 (SomeOf 68 mostTargets)
+  pub no-tail : length file ≡ fieldEnd file (targetsAt file)
+  pub layout : LayoutKept (layoutIn file)
+  pub instructions : (i : ℕ) → i < instructionCount file → InstructionKept file i
+  pub targets : (j : ℕ) → j < targetCount file → TargetKept file j
+
+-- every rule, and so over every edge too
+pub record KeepsEveryRule (file : List ℕ) : Type 0 where
+  pub file-rules : FileKept file
+  pub code-rules : (i : ℕ) → i < length (programIn file .code) → IndexKept (programIn file) i
+
+-- 14 and 15, beside 1 to 7: what a run asks for
+pub record Runnable (file : List ℕ) (m : Machine) (memory : List ℕ) (offset : ℕ) : Type 0 where
+  pub file-rules : FileKept file
+  pub pc-inside : m .pc < instructionCount file
+  pub fits : offset + layoutIn file .size ≤ length memory

@@ -1,0 +1,175 @@
+// The types that the gatekeeper's crates share. What they mean is defined in specs/, beside the sentences of document 01.
+
+// How many bytes a load or store moves.
+pub enum Width {
+    One,
+    Two,
+    Four,
+}
+
+// What a branch tests of its registers a and b: a = b, a < b unsigned, a < b signed.
+pub enum Test {
+    Equal,
+    Below,
+    SignedBelow,
+}
+
+// A decoded instruction: one of sixteen kinds, in the order of their opcodes, each with its own operands only.
+// a and b are registers, imm is the operand of that name, to is the index that a jump or branch goes to.
+pub enum Instruction {
+    Halt,
+    Set {
+        a: u8,
+        imm: u32,
+    },
+    Copy {
+        a: u8,
+        b: u8,
+    },
+    Add {
+        a: u8,
+        b: u8,
+    },
+    Addi {
+        a: u8,
+        imm: i32,
+    },
+    Sub {
+        a: u8,
+        b: u8,
+    },
+    Andi {
+        a: u8,
+        imm: u32,
+    },
+    Guard {
+        a: u8,
+    },
+    Shr {
+        a: u8,
+        amount: u8,
+    },
+    Sar {
+        a: u8,
+        amount: u8,
+    },
+    Load {
+        a: u8,
+        b: u8,
+        width: Width,
+        imm: i32,
+    },
+    Store {
+        a: u8,
+        b: u8,
+        width: Width,
+        imm: i32,
+    },
+    Jump {
+        to: u32,
+    },
+    Branch {
+        a: u8,
+        b: u8,
+        test: Test,
+        to: u32,
+    },
+    Check {
+        a: u8,
+    },
+    Jumpr {
+        a: u8,
+    },
+}
+
+// Where the region lies in the module's addresses, and how many guard bytes stand below and above it.
+pub struct Layout {
+    pub base: u32,
+    pub size: u32,
+    pub guard: u32,
+}
+
+// The values that one register may hold: from low to high, both included.
+pub struct Range {
+    pub low: u32,
+    pub high: u32,
+}
+
+// A range for each of the eight registers: the verifier's knowledge, or a target's claim.
+pub struct Ranges {
+    pub lows: [u32; 8],
+    pub highs: [u32; 8],
+}
+
+// A jump target (document 01: a door). An indirect one (open) may be jumped to through a register, a direct one (inner)
+// only by a jump or branch that names it. The claim is what the registers hold on arrival.
+pub struct Target {
+    pub index: u16,
+    pub indirect: bool,
+    pub claim: Ranges,
+}
+
+// The state that a run changes (the machine record); pc is the index of the next instruction (its place).
+pub struct Machine {
+    pub registers: [u32; 8],
+    pub pc: u16,
+}
+
+// How a run ends: halted, trapped, turned away, strayed, spent.
+pub enum Ending {
+    Halted,
+    Trapped,
+    Denied,
+    Violated,
+    OutOfBudget,
+}
+
+// What a refusal is for, in the order of document 01's numbers 1 to 15.
+pub enum Rule {
+    Truncated,
+    WrongTag,
+    BadLength,
+    TrailingBytes,
+    BadLayout,
+    BadInstruction,
+    BadTarget,
+    NoTarget,
+    UncheckedJump,
+    WildAccess,
+    BrokenClaim,
+    Unreachable,
+    FallsOff,
+    BadPc,
+    NoRoom,
+}
+
+// A refusal: the rule, and the offset or index where it is broken.
+pub struct Refusal {
+    pub rule: Rule,
+    pub place: u32,
+}
+
+// The verifier's answer: accepted, with the counts of instructions and targets, or the first refusal.
+pub enum Verdict {
+    Accepted { instructions: u32, targets: u32 },
+    Refused { refusal: Refusal },
+}
+
+// What came of a call to run: it ended, or it was refused.
+pub enum Completion {
+    Ended { ending: Ending },
+    Refused { refusal: Refusal },
+}
+
+// The answer to a call to run: what came of it, and how many steps were made.
+pub struct Answer {
+    pub completion: Completion,
+    pub steps: u32,
+}
+
+// The same with the machine afterwards, for a call that takes and returns the machine by value.
+pub struct Outcome {
+    pub machine: Machine,
+    pub completion: Completion,
+    pub steps: u32,
+}
