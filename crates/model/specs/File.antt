@@ -90,11 +90,14 @@ targetCount file = fieldLength file (targetsAt file) / 68
 abbrev pub layoutIn : List ℕ → Layout
 layoutIn file = record { base = readBytes 4 file 3; size = readBytes 4 file 7; guard = readBytes 4 file 11 }
 
--- "Size is a power of two from 256 to 65,536. Guard is 0 to 4,096. Base is a multiple of size, base ≥ guard, and
--- base + size + guard ≤ 2^32."
+-- "Size is a power of two from 256 to 65,536."
+abbrev pub isRegionSize : ℕ → Bool
+isRegionSize size = anyBelow 9 (λ k. eqb size (2 ^ (8 + k)))
+
+-- "Guard is 0 to 4,096. Base is a multiple of size, base ≥ guard, and base + size + guard ≤ 2^32."
 unfoldable pub isLayout : Layout → Bool
 isLayout l =
-    anyBelow 9 (λ k. eqb (l .size) (2 ^ (8 + k))) && leb (l .guard) 4096 && eqb (l .base % l .size) 0
+    isRegionSize (l .size) && leb (l .guard) 4096 && eqb (l .base % l .size) 0
     && leb (l .guard) (l .base) && leb (l .base + l .size + l .guard) modulus
 
 -- ---- instructions: "Bytes op, a, b, w, then imm, 32 bits."

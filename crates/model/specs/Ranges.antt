@@ -52,8 +52,11 @@ abbrev pub regionRange : Layout → Range
 regionRange l = range (l .base) (l .base + l .size - 1)
 
 -- guard: "unchanged if inside the region, else DB to DL"
+abbrev pub insideOr : Range → Range → Range
+insideOr region x = cond (leb (region .low) (x .low) && leb (x .high) (region .high)) x region
+
 unfoldable pub guardRange : Layout → Range → Range
-guardRange l x = cond (leb (l .base) (x .low) && leb (x .high) (l .base + l .size - 1)) x (regionRange l)
+guardRange l x = insideOr (regionRange l) x
 
 -- shr: "both ends shifted"
 abbrev pub shrRange : Range → ℕ → Range

@@ -4,14 +4,14 @@ use mathlib.Core.Path.{_≡_}
 use mathlib.Core.Bool.{true}
 use mathlib.Core.List.{List, List·Memᴰ}
 use mathlib.Core.Logic.{_⊎_}
-use mathlib.Core.Option.{Option, none, some}
+use mathlib.Core.Option.{none, some}
 use lib.ListN.{length, getD}
-use Rattle.model.specs.declared.Ending.{Ending}
 use Rattle.model.specs.declared.Ending.the-variants.{Violated}
 use Rattle.model.specs.declared.Layout.{Layout}
 use Rattle.model.specs.declared.Machine.{Machine}
 use Rattle.model.specs.declared.Target.{Target}
 use Rattle.model.specs.Words.{modulus}
+use Rattle.model.specs.Answers.{ended}
 use Rattle.model.specs.Ranges.{low, high}
 use Rattle.model.specs.Program.{Program, targetAt, isTarget, isIndirect}
 use Rattle.model.specs.Instructions.{reg}
@@ -84,6 +84,8 @@ MemoryOf p w memory =
 -- "no memory outside the regions changes"
 pub record CallSafe (p : Program) (start : List ℕ) (calls : List Call) (w : Walked) : Type 0 where
   pub steps : (s : Step) → List·Memᴰ s (w .log) → StepSafe p s
+  -- "nothing strays", said of the answers too: no call answers that its run strayed
+  pub answer : (n : ℕ) → w .seen .report ≡ ended Violated n → ⊥
   pub length-kept : (memory : List ℕ) → MemoryOf p w memory → length memory ≡ length start
   -- outside the call's region the memory is as before the call
   pub own : (memory : List ℕ) → MemoryOf p w memory → (at : ℕ) → (InRegionOf p (length start) (w .call) at → ⊥)
@@ -102,7 +104,7 @@ pub record Safe (p : Program) (m : Machine) (start : List ℕ) (calls : List Cal
   pub at-start : ClaimKept p m
   pub each-call : (w : Walked) → List·Memᴰ w (walk p m start calls) → CallSafe p start calls w
 
--- Demand 3. Its proof comes with the verifier's entry.
+-- Demand 3. Proved in the crate safety.
 pub record Safety : Type 0 where
   pub safe : (file : List ℕ) (m : Machine) (memory : List ℕ) (calls : List Call) (seen : List Seen)
       → Fed file m calls

@@ -1,0 +1,49 @@
+-- `reader::read::check_instructions` meets its contract. The loop's invariant: the first fault from here on is the first of all.
+-- Assumes nothing.
+use Prim.Native.Nat.{_-_}
+use mathlib.Core.Path.{_≡_, _∙_}
+use native.Mathlib.Omega.{arith}
+use borrow.Author.Needs.{needs}
+use Rattle.model.specs.Answers.{ruleNumber}
+use Rattle.model.specs.File.{isInstruction}
+use Rattle.reader.specs.Checks.{faultIn}
+use Rattle.reader.proofs.Passes.{faultFrom, faultBelow, indexes-begin, index-fails, index-passes, indexes-pass, decoded, undecoded}
+use Rattle.reader.proofs.read.check_instructions.Statement.{statement}
+use Rattle.reader.proofs.read.check_instructions.Tie as tie
+
+abbrev Inv-loop : tie.InvT-loop
+Inv-loop file n i₀ i = faultFrom 6 (isInstruction file) n i ≡ faultBelow 6 (isInstruction file) n
+
+abbrev μ-loop : tie.MeasureT-loop
+μ-loop file n i₀ i = n - i
+
+loop-holds : tie.Need-loop-holds Inv-loop μ-loop
+loop-holds c = indexes-begin 6 _ _
+
+returns : tie.Need-returns Inv-loop μ-loop
+unfolding ruleNumber
+returns c =
+    let found = c .before .before .before in
+    let test = found .before in
+    c .unmet .ensures
+    ∙ index-fails 6 _ _ _ (test .before .loop .inv) (omega arith)
+    (undecoded _ _ _ (found .instruction-at .ensures) (c .before .enum-told2 .given .1))
+
+loop-again : tie.Need-loop-again Inv-loop μ-loop
+loop-again c =
+    let found = c .before .before in
+    let test = found .before in
+    index-passes 6 _ _ _ (test .before .loop .inv) (omega arith)
+    (decoded _ _ _ (found .instruction-at .ensures) _ (c .enum-told .given .1))
+
+returns-2 : tie.Need-returns-2 Inv-loop μ-loop
+unfolding faultIn
+returns-2 c = indexes-pass 6 _ _ _ (c .before .loop .inv) (omega arith)
+
+pub check-instructions-spec : {M : Type 1} → statement M
+check-instructions-spec =
+    tie.close
+    (tie.spec
+    Inv-loop μ-loop loop-holds
+    (λ c κs. tt) (λ c. search needs) (λ c. search needs) (λ c κs. tt) returns
+    (λ c. omega arith) (λ c. omega arith) loop-again returns-2)
