@@ -15,6 +15,8 @@ use Rattle.model.specs.Obligations.{Fault, Obligation, fault, owes, firstFault,
 use Rattle.model.specs.Quantifiers.{anyOf}
 use Rattle.model.specs.Words.{readBytes}
 use Rattle.model.specs.File.{fieldEnd, targetsAt, instructionCount, targetCount, layoutIn, isLayout, instructionIn, isInstruction, readable}
+use Rattle.model.specs.Rules.{FileKept}
+use Rattle.model.proofs.Accepted.{readable-iff}
 use Rattle.model.proofs.Faults.{head-met, head-unmet, one-met, append-faultless, append-faulty, index-faultless, index-faulty, indexes-done, indexes-start}
 use Rattle.reader.specs.declared.check.Check.{Check}
 use Rattle.reader.specs.declared.check.Check.the-variants.{Met, Unmet}
@@ -88,18 +90,26 @@ module _ (file : List ℕ) where
       pub layout-passes : isLayout (layoutIn file) ≡ true → firstFault (tableRules file) ≡ firstFault (restRules file)
       layout-passes passed = sym (past-end ∙ head-met _ _ passed)
 
--- what is read of a file that was checked
+-- what the check of a file tells: that it keeps rules 1 to 7, or the first fault; and so what is read of it
 module _ (file : List ℕ) (r : Check) (is-fault : faultIn r ≡ firstFault (readable file)) where
+  no-fault : r ≡ Met → firstFault (readable file) ≡ none
+  unfolding faultIn
+  no-fault met = sym (rw met at is-fault)
+
+  pub met-kept : r ≡ Met → FileKept file
+  met-kept met = readable-iff file .0 (no-fault met)
+
+  pub unmet-names : (x : Refusal) → r ≡ Unmet x → firstFault (readable file) ≡ some (faultOf x)
+  unfolding faultIn
+  unmet-names x unmet = sym (rw unmet at is-fault)
+
   pub met-read : r ≡ Met → (l : Layout) (n k at : ℕ) → l ≡ layoutIn file → n ≡ instructionCount file → k ≡ targetCount file
       → at ≡ targetsAt file
       → readingOf (Module record { layout = l; instructions = n; targets = k; «targets_at» = at }) ≡ reading file
-  unfolding faultIn readingOf reading
+  unfolding readingOf reading
   met-read met l n k at is-layout is-instructions is-targets is-at =
-      let no-fault : none ≡ firstFault (readable file) = rw met at is-fault in
-      rw (← no-fault, is-layout, is-instructions, is-targets, is-at)
+      rw (no-fault met, is-layout, is-instructions, is-targets, is-at)
 
   pub unmet-read : (x : Refusal) → r ≡ Unmet x → readingOf (Refused x) ≡ reading file
-  unfolding faultIn readingOf reading
-  unmet-read x unmet =
-      let named : some (faultOf x) ≡ firstFault (readable file) = rw unmet at is-fault in
-      rw (← named)
+  unfolding readingOf reading
+  unmet-read x unmet = rw (unmet-names x unmet)

@@ -1,0 +1,17 @@
+-- `machine::access::write_two` meets its contract: by the definition's two steps. Assumes nothing.
+use borrow.Author.Needs.{needs}
+use native.Mathlib.Omega.{arith}
+use lib.ListN.{length-set}
+use Rattle.machine.proofs.Reaching.{writes-two}
+use Rattle.machine.proofs.access.write_two.Statement.{statement}
+use Rattle.machine.proofs.access.write_two.Tie as tie
+
+returns : tie.Need-returns
+returns c = writes-two _ _ _
+
+pub write-two-spec : {M : Type 1} → statement M
+write-two-spec =
+    tie.close
+    (tie.spec
+    (λ c. omega arith) (λ c. omega arith) (λ c. omega arith) (λ c. omega arith)
+    (λ c. simp length-set (omega arith)) (λ c. search needs) returns)

@@ -1,0 +1,104 @@
+// Access: where the bytes of a load or store lie, and moving them.
+use model::Layout;
+use model::Width;
+ghost use mathlib.Core.Path.{_≡_};
+ghost use Prim.Native.Nat.{_+_, _≤_};
+ghost use lib.ListN.{length};
+ghost use Rattle.model.specs.Words.{readBytes, writeBytes};
+ghost use Rattle.model.specs.Instructions.{bytesOf};
+ghost use Rattle.machine.specs.Core.{reachOf};
+
+// All bytes in the region, at an offset of it; or all in region and guard zones; or not.
+pub(crate) enum Reach {
+    Inside { offset: usize },
+    Guarded,
+    Outside,
+}
+
+fn wide(x: u32) -> u64
+    ensures { λ r. ⌜ (r ≡ x) × (r ≤ 0xFFFF_FFFF) ⌝ }
+{
+    x as u64
+}
+
+fn bytes_of(width: Width) -> u64
+    ensures { λ r. ⌜ (r ≡ bytesOf width) × (r ≤ 4) ⌝ }
+{
+    match width {
+        Width::One => 1,
+        Width::Two => 2,
+        Width::Four => 4,
+    }
+}
+
+pub(crate) fn judge(layout: Layout, address: u32, width: Width) -> Reach
+    ensures { λ r. ⌜ r ≡ reachOf layout address width ⌝ }
+{
+    let from = wide(address);
+    let to = from + bytes_of(width);
+    let base = wide(layout.base);
+    let end = base + wide(layout.size);
+    let guard = wide(layout.guard);
+    if base <= from {
+        if to <= end {
+            return Reach::Inside {
+                offset: (from - base) as usize,
+            };
+        }
+    }
+    if from + guard < base {
+        return Reach::Outside;
+    }
+    if end + guard < to {
+        return Reach::Outside;
+    }
+    Reach::Guarded
+}
+
+// The number of the bytes at an offset.
+pub(crate) fn read(region: &[u8], at: usize, width: Width) -> u32
+    ensures { λ r. ⌜ r ≡ readBytes (bytesOf width) (now (region .entry)) at ⌝ }
+{
+    match width {
+        Width::One => words::bytes::byte_at(region, at) as u32,
+        Width::Two => words::bytes::read_u16(region, at) as u32,
+        Width::Four => words::bytes::read_u32(region, at),
+    }
+}
+
+fn write_one(region: &mut [u8], at: usize, x: u32)
+    requires { ⌜ at + 1 ≤ length (now region) ⌝ }
+    ensures { λ r. ⌜ now (region .exit) ≡ writeBytes 1 x (now (region .entry)) at ⌝ }
+{
+    region[at] = (x % 256) as u8;
+}
+
+fn write_two(region: &mut [u8], at: usize, x: u32)
+    requires { ⌜ at + 2 ≤ length (now region) ⌝ }
+    ensures { λ r. ⌜ now (region .exit) ≡ writeBytes 2 x (now (region .entry)) at ⌝ }
+{
+    region[at] = (x % 256) as u8;
+    region[at + 1] = (x / 256 % 256) as u8;
+}
+
+fn write_four(region: &mut [u8], at: usize, x: u32)
+    requires { ⌜ at + 4 ≤ length (now region) ⌝ }
+    ensures { λ r. ⌜ now (region .exit) ≡ writeBytes 4 x (now (region .entry)) at ⌝ }
+{
+    region[at] = (x % 256) as u8;
+    region[at + 1] = (x / 256 % 256) as u8;
+    region[at + 2] = (x / 65536 % 256) as u8;
+    region[at + 3] = (x / 16777216 % 256) as u8;
+}
+
+// The low bytes of a number, stored at an offset.
+pub(crate) fn write(region: &mut [u8], at: usize, width: Width, x: u32)
+    requires { ⌜ at + bytesOf width ≤ length (now region) ⌝ }
+    ensures { λ r. ⌜ now (region .exit) ≡ writeBytes (bytesOf width) x (now (region .entry)) at ⌝ }
+{
+    match width {
+        Width::One => write_one(region, at, x),
+        Width::Two => write_two(region, at, x),
+        Width::Four => write_four(region, at, x),
+    }
+}
