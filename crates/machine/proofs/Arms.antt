@@ -1,10 +1,9 @@
 -- The arms of `execute`: what each leaves is the model's step of its instruction, by the table's shape for it and the laws of
 -- settling. Assumes nothing.
-use Prim.Native.Nat.{ℕ, _≤_, _<_}
+use Prim.Native.Nat.{ℕ, _<_}
 use mathlib.Core.Path.{_≡_, sym, ap, _∙_}
 use mathlib.Core.Bool.{true, false}
 use mathlib.Core.List.{List, []}
-use native.Mathlib.Omega.{arith}
 use lib.IntN.{ℤ, pos, _+ℤ_}
 use lib.Signed.{mag}
 use lib.ListN.{length}
@@ -37,7 +36,7 @@ pub displaced-by : (rs : List ℕ) (r x v : ℕ) (imm : ℤ) → mag imm < 0x800
     → v ≡ wrap (pos x +ℤ toZ w32 (ofZ w32 imm)) → v ≡ wrap (pos (reg rs r) +ℤ imm)
 displaced-by rs r x v imm small read made = rw (made, read, toZ-ofZ w32 imm (record { sfits = small }))
 
-module _ (file : List ℕ) (l : Layout) (n : ℕ) (bs : List ℕ) (ready : Ready file l n bs) where
+module _ {file : List ℕ} {l : Layout} {n : ℕ} {bs : List ℕ} (ready : Ready file l n bs) where
   pub layout-ready : programIn file .layout ≡ l
   unfolding programIn
   layout-ready = sym (ready .layout-is)
@@ -51,13 +50,7 @@ module _ (file : List ℕ) (l : Layout) (n : ℕ) (bs : List ℕ) (ready : Ready
   pub room-ready : length bs ≡ l .size
   room-ready = ready .room ∙ ap (λ (x : Layout). x .size) (sym (ready .layout-is))
 
-  -- there are at most 4,096 instructions
-  pub few-ready : n ≤ 65536
-  few-ready =
-      let count = ready .kept .code-field .listed in
-      omega (arith, ready .count-is, count .2, count .3)
-
-  module _ (m : Machine) (i j : Instruction) (told : i ≡ j) (next : Next) where
+  module _ (m : Machine) {i j : Instruction} (told : i ≡ j) (next : Next) where
     -- an instruction that assigns a value
     pub assigned : (a v : ℕ) (value : List ℕ → ℕ) (ranged : Ranges → Range) (rs′ : List ℕ)
         → shape (programIn file .layout) j ≡ assigns a value ranged → v ≡ value (m .registers) → AssignPost n m a v next rs′

@@ -31,7 +31,9 @@ module _ (file : List ℕ) (to : ℕ) (lookup : Lookup) (searched : targetFound 
   found-index : (j : ℕ) → targetAt (programIn file .targets) to ≡ some (targetIn file j) → targetIndex file j ≡ to
   unfolding programIn targetIn
   found-index j there =
-      let entry : Found (targetIn file) 0 (targetCount file) to (targetIn file j) = found (targetIn file) 0 (targetCount file) to (targetIn file j) there in
+      let entry : Found (targetIn file) 0 (targetCount file) to (targetIn file j) =
+      found (targetIn file) 0 (targetCount file) to (targetIn file j) there
+      in
       ap (λ (t : Target). t .index) (sym (entry .is)) ∙ entry .index
 
   pub goes-to-found : (j index : ℕ) → lookup ≡ At j → index ≡ targetIndex file j → To index ≡ jumpOf (programIn file .targets) to

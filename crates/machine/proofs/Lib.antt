@@ -6,3 +6,4 @@ pub mod Fetching
 pub mod Looping
 pub mod Calling
 pub mod Lending
+pub mod Joined

@@ -25,13 +25,15 @@ abbrev pub machineOf : List ℕ → ℕ → Machine
 machineOf rs pc = record { registers = rs; pc = pc }
 
 -- what holds whenever the loop's test is reached
-pub record Underway (file : List ℕ) (n budget : ℕ) (start : Machine) (region₀ : List ℕ) (m : Machine) (region : List ℕ) (made : ℕ) : Type 0 where
+pub record Underway (file : List ℕ) (n budget : ℕ) (start : Machine) (region₀ : List ℕ) (m : Machine) (region : List ℕ) (made : ℕ)
+    : Type 0 where
   pub within : made ≤ budget
   pub inside : m .pc < n
   pub room : length region ≡ length region₀
   pub continues : Continues (run (programIn file) budget start region₀) (run (programIn file) (budget - made) m region) made
 
-pub underway-starts : (file : List ℕ) (n budget : ℕ) (m : Machine) (region : List ℕ) → m .pc < n → Underway file n budget m region m region 0
+pub underway-starts : (file : List ℕ) (n budget : ℕ) (m : Machine) (region : List ℕ) → m .pc < n
+    → Underway file n budget m region m region 0
 underway-starts file n budget m region below = record {
   within = omega arith;
   inside = below;
@@ -58,8 +60,8 @@ run-over r rest made comes = record {
   region = sym (comes .region);
 }
 
-module _ (file : List ℕ) (l : Layout) (n budget : ℕ) (start : Machine) (region₀ : List ℕ) (ready : Ready file l n region₀)
-    (m : Machine) (region : List ℕ) (made : ℕ) (so-far : Underway file n budget start region₀ m region made) where
+module _ {file : List ℕ} {l : Layout} {n budget : ℕ} {start m : Machine} {region₀ region : List ℕ} {made : ℕ}
+    (ready : Ready file l n region₀) (so-far : Underway file n budget start region₀ m region made) where
   -- the core is given what it was given at first
   pub still-ready : Ready file l n region
   still-ready = record {
@@ -69,7 +71,8 @@ module _ (file : List ℕ) (l : Layout) (n budget : ℕ) (start : Machine) (regi
     room = so-far .room ∙ ready .room;
   }
 
-  module _ (left : made < budget) (next : Next) (rs′ region′ : List ℕ) (stepped : StepPost (step (programIn file) m region) next rs′ region′) where
+  module _ (left : made < budget) {next : Next} {rs′ region′ : List ℕ}
+      (stepped : StepPost (step (programIn file) m region) next rs′ region′) where
     steady : Steady (programIn file) m region (step (programIn file) m region)
     steady = readable-steady file (ready .kept) m region (rw (ready .count-is) at (so-far .inside)) .0
 
@@ -77,7 +80,7 @@ module _ (file : List ℕ) (l : Layout) (n budget : ℕ) (start : Machine) (regi
     one-more = omega arith
 
     -- a step that goes somewhere
-    module _ (to : ℕ) (goes : next ≡ To to) where
+    module _ {to : ℕ} (goes : next ≡ To to) where
       went : (step (programIn file) m region .ending ≡ none) × (step (programIn file) m region .machine .pc ≡ to)
       went = to-none _ _ to (sym (stepped .goes) ∙ goes)
 
@@ -86,7 +89,8 @@ module _ (file : List ℕ) (l : Layout) (n budget : ℕ) (start : Machine) (regi
           ap (machineOf (step (programIn file) m region .machine .registers)) (went .1)
           ∙ ap (λ (rs : List ℕ). machineOf rs to) (sym (stepped .registers))
 
-      one-step : Continues (run (programIn file) (budget - made) m region) (run (programIn file) (budget - (made + 1)) (machineOf rs′ to) region′) 1
+      one-step : Continues (run (programIn file) (budget - made) m region)
+          (run (programIn file) (budget - (made + 1)) (machineOf rs′ to) region′) 1
       one-step =
           rw (one-more, ← machine-after, stepped .region)
           (continues-step (programIn file) (budget - (made + 1)) m region (went .0))
@@ -100,7 +104,7 @@ module _ (file : List ℕ) (l : Layout) (n budget : ℕ) (start : Machine) (regi
       }
 
     -- a step that ends the run
-    module _ (e : Ending) (over : next ≡ Ends e) where
+    module _ {e : Ending} (over : next ≡ Ends e) where
       ended : step (programIn file) m region .ending ≡ some e
       ended = ends-some _ _ e (sym (stepped .goes) ∙ over)
 

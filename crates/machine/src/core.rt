@@ -13,14 +13,12 @@ use model::Machine;
 use model::Outcome;
 use model::Test;
 use model::Width;
-use reader::decode::Decoded;
 ghost use mathlib.Core.Path.{_≡_};
 ghost use Prim.Native.Nat.{_≤_, _<_};
 ghost use lib.ListN.{length};
 ghost use Rattle.model.specs.Instructions.{holds, guarded};
-ghost use Rattle.model.specs.Program.{codeAt};
 ghost use Rattle.model.specs.Step.{step};
-ghost use Rattle.model.specs.File.{instructionCount, programIn};
+ghost use Rattle.model.specs.File.{programIn};
 ghost use Rattle.model.specs.Rules.{LayoutKept};
 ghost use Rattle.model.specs.Run.{run};
 ghost use Rattle.machine.specs.Core.{AssignPost, LoadPost, StorePost, Ready, StepPost, stepOf, LoopPost};
@@ -218,18 +216,6 @@ fn execute(
     }
 }
 
-// The instruction at an index below n.
-fn fetch(file: &[u8], pc: u16) -> Instruction
-    requires { ⌜ pc < instructionCount (now file) ⌝ }
-    ensures { λ r. ⌜ r ≡ codeAt (programIn (now (file .entry))) pc ⌝ }
-{
-    let found = reader::decode::instruction_at(file, pc as u32);
-    match found {
-        Decoded::Is { instruction } => instruction,
-        Decoded::Not => Instruction::Halt,
-    }
-}
-
 // One step.
 pub(crate) fn step(
     file: &[u8],
@@ -243,7 +229,7 @@ pub(crate) fn step(
     requires { ⌜ pc < n ⌝ }
     ensures { λ r. ⌜ StepPost (step (programIn (now (file .entry))) (record { registers = now (registers .entry); pc = pc }) (now (region .entry))) r (now (registers .exit)) (now (region .exit)) ⌝ }
 {
-    let instruction = fetch(file, pc);
+    let instruction = reader::decode::fetch(file, pc as u32);
     execute(file, layout, n, instruction, pc, registers, region)
 }
 

@@ -1,6 +1,8 @@
 -- Lists made from their indexes. Assumes nothing.
-use Prim.Native.Nat.{ℕ, zero, suc}
-use mathlib.Core.Path.{_≡_, refl, ap}
+use Prim.Native.Nat.{ℕ, zero, suc, _+_, _<_}
+use mathlib.Core.Path.{_≡_, refl, sym, ap, _∙_}
+use native.Mathlib.Nat.{add-zero}
+use native.Mathlib.Omega.{arith}
 use lib.ListN.{length, getD}
 use Rattle.model.specs.File.{tabulate}
 
@@ -17,3 +19,11 @@ unfolding tabulate
 tabulate-everywhere P f d entries past i zero j = past
 tabulate-everywhere P f d entries past i (suc n) zero = entries i
 tabulate-everywhere P f d entries past i (suc n) (suc j) = tabulate-everywhere P f d entries past (suc i) n j
+
+-- the entry of a table
+pub tabulate-at : {A : Type 0} (f : ℕ → A) (d : A) (i n j : ℕ) → j < n → getD (tabulate i n f) j d ≡ f (i + j)
+unfolding tabulate
+tabulate-at f d i zero j below = absurd (omega arith)
+tabulate-at f d i (suc n) zero below = ap f (sym (add-zero i))
+tabulate-at f d i (suc n) (suc j) below =
+    tabulate-at f d (suc i) n j (omega arith) ∙ ap f (let moved : suc i + j ≡ i + suc j = omega arith in moved)

@@ -1,7 +1,8 @@
--- The targets of a file that keeps rules 1 to 7: what is found at an index is one of them, it lies inside the code, and an
--- indirect one claims nothing. Assumes nothing.
+-- The code and the targets of a file: an index has the instruction of its bytes; and, where rules 1 to 7 are kept, what is found
+-- at an index is one of the file's targets, it lies inside the code, and an indirect one claims nothing. Assumes nothing.
 use Prim.Native.Nat.{ℕ, zero, suc, _+_, _≤_, _<_}
-use mathlib.Core.Path.{_≡_, refl, subst}
+use mathlib.Core.Path.{_≡_, refl, sym, ap, _∙_, subst}
+use native.Mathlib.Nat.{zero-add}
 use mathlib.Core.Bool.{Bool, true, false}
 use mathlib.Core.List.{List}
 use mathlib.Core.Option.{Option, none, some, Option·none-ne-some, Option·some-injective, Option·getD}
@@ -13,18 +14,25 @@ use Rattle.model.specs.declared.Instruction.the-variants.{Halt}
 use Rattle.model.specs.declared.Machine.{Machine}
 use Rattle.model.specs.declared.Target.{Target}
 use Rattle.model.specs.Ranges.{low, high}
-use Rattle.model.specs.Program.{targetAt}
+use Rattle.model.specs.Program.{codeAt, targetAt}
 use Rattle.model.specs.Step.{step}
 use Rattle.model.specs.File.{instructionCount, targetCount, instructionIn, tabulate, claimIn, targetIn, indirectClaim, programIn}
 use Rattle.model.specs.Rules.{FileKept, TargetKept}
 use Rattle.model.specs.Run.{run}
 use Rattle.model.proofs.Steady.{TargetsInside, Steady, RunSteady, step-steady, run-steady}
-use Rattle.model.proofs.Tabulate.{length-tabulate}
+use Rattle.model.proofs.Tabulate.{length-tabulate, tabulate-at}
 
 -- a module has as many instructions as its file says
 pub code-length : (file : List ℕ) → length (programIn file .code) ≡ instructionCount file
 unfolding programIn
 code-length file = length-tabulate 0 (instructionCount file) (λ i. Option·getD (instructionIn file i) Halt)
+
+-- the instruction at an index is what its eight bytes are
+pub code-at : (file : List ℕ) (i : ℕ) → i < instructionCount file → Option·getD (instructionIn file i) Halt ≡ codeAt (programIn file) i
+unfolding programIn
+code-at file i below =
+    sym (tabulate-at (λ j. Option·getD (instructionIn file j) Halt) Halt 0 (instructionCount file) i below
+    ∙ ap (λ (j : ℕ). Option·getD (instructionIn file j) Halt) (zero-add i))
 
 -- what is found at index i in a table of targets is the entry of some number, and has that index
 pub record Found (f : ℕ → Target) (from count i : ℕ) (t : Target) : Type 0 where

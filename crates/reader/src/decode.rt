@@ -3,7 +3,8 @@ use model::Instruction;
 use model::Test;
 use model::Width;
 ghost use mathlib.Core.Path.{_≡_};
-ghost use mathlib.Core.Option.{some};
+ghost use mathlib.Core.Option.{some, Option·getD};
+ghost use Rattle.model.specs.declared.Instruction.the-variants.{Halt};
 ghost use Rattle.model.specs.File.{isRegister, isAmount, hasNothing, hasA, hasAB, hasAAmount, hasImm, hasAImm, hasABWImm, widthOf, testOf, provided, decode, instructionIn};
 ghost use Rattle.reader.specs.Decoding.{instructionOf, widthIn, testIn, loadOf, storeOf, branchOf};
 
@@ -252,4 +253,15 @@ pub fn instruction_at(file: &[u8], i: u32) -> Decoded
     let w = words::bytes::byte_at(file, at + 3);
     let imm = words::bytes::read_u32(file, at + 4);
     decode(op, a, b, w, imm)
+}
+
+// The same as an instruction to execute: bytes that are none are a halt, which no file that keeps rule 6 has.
+pub fn fetch(file: &[u8], i: u32) -> Instruction
+    ensures { λ x. ⌜ x ≡ Option·getD (instructionIn (now (file .entry)) i) Halt ⌝ }
+{
+    let found = instruction_at(file, i);
+    match found {
+        Decoded::Is { instruction } => instruction,
+        Decoded::Not => Instruction::Halt,
+    }
 }

@@ -22,12 +22,13 @@ step-requires : tie.Need-step-requires Inv-loop μ-loop
 step-requires c κs =
     let turn = c .before .before .before in
     let start = turn .before .before .before .before in
-    (still-ready _ _ _ _ _ _ (start .pre .0) _ _ _ (turn .loop .inv), turn .loop .inv .inside)
+    (still-ready (start .pre .0) (turn .loop .inv), turn .loop .inv .inside)
 
 add-made : tie.Need-add-made Inv-loop μ-loop
 add-made c =
-    let turn = c .before .before .before .before .before .before in
-    record { fits = omega (arith, c .before .before .before .before .before .loop-test .taken, turn .before .before .before .before .fits .budget .fits) }
+    let tested = c .before .before .before .before .before in
+    let start = tested .before .before .before .before .before in
+    record { fits = omega (arith, tested .loop-test .taken, start .fits .budget .fits) }
 
 loop-less : tie.Need-loop-less Inv-loop μ-loop
 loop-less c = omega (arith, c .before .before .before .before .before .before .before .before .loop-test .taken)
@@ -37,8 +38,8 @@ loop-again c =
     let stepped = c .before .before .before .before .before in
     let turn = stepped .before .before .before .before in
     let start = turn .before .before .before .before in
-    goes-on _ _ _ _ _ _ (start .pre .0) _ _ _ (turn .loop .inv) (stepped .before .before .before .loop-test .taken) _ _ _
-    (stepped .step .ensures) _ (c .before .next .given .1)
+    goes-on (start .pre .0) (turn .loop .inv) (stepped .before .before .before .loop-test .taken) (stepped .step .ensures)
+    (c .before .next .given .1)
 
 same-length : tie.Need-same-length Inv-loop μ-loop
 same-length c =
@@ -51,8 +52,8 @@ returns c =
     let stepped = c .before .before .before .before .before in
     let turn = stepped .before .before .before .before in
     let start = turn .before .before .before .before in
-    run-ended _ _ _ _ _ _ (start .pre .0) _ _ _ (turn .loop .inv) (stepped .before .before .before .loop-test .taken) _ _ _
-    (stepped .step .ensures) _ (c .before .next2 .given .1)
+    run-ended (start .pre .0) (turn .loop .inv) (stepped .before .before .before .loop-test .taken) (stepped .step .ensures)
+    (c .before .next2 .given .1)
 
 same-length-2 : tie.Need-same-length-2 Inv-loop μ-loop
 same-length-2 c = c .before .loop .inv .room
@@ -60,7 +61,7 @@ same-length-2 c = c .before .loop .inv .room
 returns-2 : tie.Need-returns-2 Inv-loop μ-loop
 returns-2 c =
     let turn = c .before in
-    run-spent _ _ _ _ _ _ (turn .before .before .before .before .pre .0) _ _ _ (turn .loop .inv) (c .loop-test .left)
+    run-spent (turn .before .before .before .before .pre .0) (turn .loop .inv) (c .loop-test .left)
 
 pub run-in-spec : {M : Type 1} → statement M
 run-in-spec =

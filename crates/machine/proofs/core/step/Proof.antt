@@ -5,13 +5,11 @@ use Rattle.machine.proofs.Fetching.{step-fetched}
 use Rattle.machine.proofs.core.step.Statement.{statement}
 use Rattle.machine.proofs.core.step.Tie as tie
 
-fetch-requires : tie.Need-fetch-requires
-fetch-requires c κs = let start = c .before .before in omega (arith, start .pre .0 .count-is, start .pre .1)
-
 returns : tie.Need-returns
 returns c =
     let fetching = c .before .before .before .before .before in
-    step-fetched _ _ _ _ _ _ _ (fetching .fetch .ensures) (c .before .before .execute .ensures)
+    let start = fetching .before .before .before in
+    step-fetched _ _ _ _ _ _ _ (omega (arith, start .pre .0 .count-is, start .pre .1)) (fetching .fetch .ensures) (c .before .before .execute .ensures)
 
 pub step-spec : {M : Type 1} → statement M
-step-spec = tie.close (tie.spec fetch-requires (λ c κs. c .before .before .before .before .before .pre .0) (λ c. search needs) returns)
+step-spec = tie.close (tie.spec (λ c κs. tt) (λ c κs. c .before .before .before .before .before .pre .0) (λ c. search needs) returns)

@@ -13,7 +13,8 @@ write-requires c κs =
     let found = c .before .before .before .before .before in
     let judged = found .before .before in
     let start = judged .before .before in
-    inside-fits (start .args .layout) (start .args .address) (start .args .width) _ _ (judged .judge .ensures) (found .reached .given .1) _ refl (now (start .args .region)) (start .pre .1)
+    inside-fits (start .args .layout) (start .args .address) (start .args .width) _ _ (judged .judge .ensures)
+    (found .reached .given .1) _ refl (now (start .args .region)) (start .pre .1)
 
 returns : tie.Need-returns
 returns c rs =

@@ -1,0 +1,4 @@
+pub mod Bounding
+pub mod Cutting
+pub mod Raised
+pub mod Registers

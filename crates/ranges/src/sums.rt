@@ -1,0 +1,100 @@
+// Rule W: the ranges of sums and differences, from exact ends. An exact end is between -2^32 and 2^33; it is kept as a u64, raised
+// by 2^32, so that none is negative.
+use model::Range;
+ghost use mathlib.Core.Path.{_≡_};
+ghost use Prim.Native.Nat.{_<_};
+ghost use lib.IntN.{pos, _+ℤ_, subℕ};
+ghost use Rattle.model.specs.Words.{modulus};
+ghost use Rattle.model.specs.Ranges.{ruleW};
+
+// 2^32 and 2^33.
+const WORDS: u64 = 0x1_0000_0000;
+
+const TWICE: u64 = 0x2_0000_0000;
+
+fn wide(x: u32) -> u64
+    ensures { λ r. ⌜ (r ≡ x) × (r < modulus) ⌝ }
+{
+    x as u64
+}
+
+// Rule W on two raised ends.
+fn rule_w(low: u64, high: u64) -> Range
+    requires { ⌜ (low < 0x3_0000_0000) × (high < 0x3_0000_0000) ⌝ }
+    ensures { λ r. ⌜ r ≡ ruleW (subℕ low modulus) (subℕ high modulus) ⌝ }
+{
+    if low < WORDS {
+        if high < WORDS {
+            return Range {
+                low: low as u32,
+                high: high as u32,
+            };
+        }
+        return Range {
+            low: 0,
+            high: 0xFFFF_FFFF,
+        };
+    }
+    if low < TWICE {
+        if WORDS <= high {
+            if high < TWICE {
+                return Range {
+                    low: (low - WORDS) as u32,
+                    high: (high - WORDS) as u32,
+                };
+            }
+        }
+        return Range {
+            low: 0,
+            high: 0xFFFF_FFFF,
+        };
+    }
+    if TWICE <= high {
+        return Range {
+            low: (low - TWICE) as u32,
+            high: (high - TWICE) as u32,
+        };
+    }
+    Range {
+        low: 0,
+        high: 0xFFFF_FFFF,
+    }
+}
+
+// add: "rule W on the two sums of ends"
+pub fn add(x: Range, y: Range) -> Range
+    ensures { λ r. ⌜ r ≡ ruleW (pos (x .low) +ℤ pos (y .low)) (pos (x .high) +ℤ pos (y .high)) ⌝ }
+{
+    rule_w(
+        WORDS + wide(x.low) + wide(y.low),
+        WORDS + wide(x.high) + wide(y.high),
+    )
+}
+
+// sub: "rule W on lowest a − highest b, highest a − lowest b"
+pub fn sub(x: Range, y: Range) -> Range
+    ensures { λ r. ⌜ r ≡ ruleW (subℕ (x .low) (y .high)) (subℕ (x .high) (y .low)) ⌝ }
+{
+    rule_w(
+        WORDS + wide(x.low) - wide(y.high),
+        WORDS + wide(x.high) - wide(y.low),
+    )
+}
+
+// An end plus a signed displacement, raised.
+pub fn displaced_end(end: u32, imm: i32) -> u64
+    ensures { λ r. ⌜ (subℕ r modulus ≡ pos end +ℤ imm) × (r < 0x3_0000_0000) ⌝ }
+{
+    if 0 <= imm {
+        WORDS + wide(end) + wide(imm as u32)
+    } else {
+        WORDS + wide(end) - wide((-1 - imm) as u32) - 1
+    }
+}
+
+// addi: "rule W on both ends plus imm"
+pub fn addi(x: Range, imm: i32) -> Range
+    ensures { λ r. ⌜ r ≡ ruleW (pos (x .low) +ℤ imm) (pos (x .high) +ℤ imm) ⌝ }
+{
+    rule_w(displaced_end(x.low, imm), displaced_end(x.high, imm))
+}

@@ -1,0 +1,1 @@
+// Demand 3, proved: see proofs/. There is no code here.

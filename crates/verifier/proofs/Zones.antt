@@ -1,0 +1,98 @@
+-- Rule 10 on ends that are kept raised by 2^32: the code's two comparisons are the definition's. Assumes nothing.
+use Prim.Native.Nat.{ℕ, suc, _+_, _-_, _≤_, _<_}
+use mathlib.Core.Path.{_≡_, refl, sym, ap, ap₂, _∙_}
+use mathlib.Core.Bool.{Bool, true, false, _&&_}
+use native.Mathlib.Omega.{arith}
+use borrow.Author.Tests.{le-leb, lt-leb, leb-true, ltb-true, ltb-false}
+use lib.Dec.{leb, ltb}
+use lib.IntN.{ℤ, pos, _+ℤ_, subℕ}
+use lib.Signed.{leZ}
+use mir.Syntax.{w32}
+use mir.Val.{SFits, ofZ, toZ}
+use Rattle.model.specs.declared.Layout.{Layout}
+use Rattle.model.specs.declared.Range.{Range}
+use Rattle.model.specs.declared.Ranges.{Ranges}
+use Rattle.model.specs.declared.Width.{Width}
+use Rattle.model.specs.declared.Width.the-variants.{One, Two, Four}
+use Rattle.model.specs.Words.{modulus}
+use Rattle.model.specs.Ranges.{low, high, range, rangeOf, regionRange}
+use Rattle.model.specs.Instructions.{bytesOf}
+use Rattle.model.specs.Judgement.{isContained}
+use Rattle.model.specs.Rules.{LayoutKept}
+use Rattle.model.proofs.Tests.{by-cond}
+use Rattle.model.proofs.Values.{some-size}
+use Rattle.ranges.proofs.Raised.{kept-displacement}
+
+-- DB to DL, with the size less one added to the base
+pub region-ends : {l : Layout} → LayoutKept l → range (l .base) (l .base + (l .size - 1)) ≡ regionRange l
+region-ends {l} kept = ap (range (l .base)) (omega (arith, some-size kept))
+
+-- two comparisons that say the same
+same-order : (a b c d : ℕ) → (a ≤ b → c ≤ d) → (c ≤ d → a ≤ b) → leb a b ≡ leb c d
+same-order a b c d forth back = by-test (leb a b) refl
+  where
+    by-test : (t : Bool) → leb a b ≡ t → t ≡ leb c d
+    by-test true passed = sym (le-leb c d (forth (leb-true a b passed)))
+    by-test false failed = by-other (leb c d) refl
+      where
+        by-other : (s : Bool) → leb c d ≡ s → false ≡ s
+        by-other true passed = sym failed ∙ le-leb a b (back (leb-true c d passed))
+        by-other false still = refl
+
+-- an exact end against a natural number, and its raised form against that number raised
+at-least : (m n : ℕ) → leZ (pos m) (subℕ n modulus) ≡ leb (modulus + m) n
+at-least m n =
+    by-cond (λ z. leZ (pos m) z ≡ leb (modulus + m) n) (ltb n modulus)
+    (λ t. sym (lt-leb (modulus + m) n (omega (arith, ltb-true n modulus t))))
+    (λ f. let above : modulus ≤ n = ltb-false n modulus f in
+    same-order m (n - modulus) (modulus + m) n (λ h. omega arith) (λ h. omega arith))
+
+at-most : (n x m : ℕ) → leZ (subℕ n modulus +ℤ pos x) (pos m) ≡ leb (n + x) (modulus + m)
+at-most n x m =
+    by-cond (λ z. leZ (z +ℤ pos x) (pos m) ≡ leb (n + x) (modulus + m)) (ltb n modulus)
+    (λ t. let below : n < modulus = ltb-true n modulus t in
+    by-cond (λ z. leZ z (pos m) ≡ leb (n + x) (modulus + m)) (ltb x (suc (modulus - suc n)))
+    (λ s. let negative : x < suc (modulus - suc n) = ltb-true x (suc (modulus - suc n)) s in
+    sym (le-leb (n + x) (modulus + m) (omega arith)))
+    (λ s. let natural : suc (modulus - suc n) ≤ x = ltb-false x (suc (modulus - suc n)) s in
+    same-order (x - suc (modulus - suc n)) m (n + x) (modulus + m) (λ h. omega arith) (λ h. omega arith)))
+    (λ f. let above : modulus ≤ n = ltb-false n modulus f in
+    same-order (n - modulus + x) m (n + x) (modulus + m) (λ h. omega arith) (λ h. omega arith))
+
+-- what the code computes before it compares: the pointer's range x, the raised ends, and how far the last byte lies behind the first
+pub record Ends (k : Ranges) (b : ℕ) (w : Width) (imm : ℤ) (x : Range) (lowest highest last : ℕ) : Type 0 where
+  pub is-range : x ≡ rangeOf k b
+  pub is-lowest : subℕ lowest modulus ≡ pos (x .low) +ℤ toZ w32 (ofZ w32 imm)
+  pub is-highest : subℕ highest modulus ≡ pos (x .high) +ℤ toZ w32 (ofZ w32 imm)
+  pub is-last : last ≡ bytesOf w - 1
+
+-- an access moves four bytes or fewer
+pub last-small : {k : Ranges} {b : ℕ} {w : Width} {imm : ℤ} {x : Range} {lowest highest last : ℕ} → Ends k b w imm x lowest highest last → last < 4
+last-small {w = w} ends = rw (ends .is-last) (by-width w)
+  where
+    by-width : (v : Width) → bytesOf v - 1 < 4
+    by-width One = omega arith
+    by-width Two = omega arith
+    by-width Four = omega arith
+
+module _ {l : Layout} (kept : LayoutKept l) {k : Ranges} {b : ℕ} {w : Width} {imm : ℤ} (fit : SFits w32 imm)
+    {x : Range} {lowest highest last : ℕ} (ends : Ends k b w imm x lowest highest last) where
+  two-tests : isContained l k (record { pointer = b; width = w; displacement = imm })
+      ≡ (leb (modulus + (l .base - l .guard)) lowest && leb (highest + last) (modulus + (l .base + l .size - 1 + l .guard)))
+  unfolding isContained
+  two-tests =
+      let lowest-is : pos (low k b) +ℤ imm ≡ subℕ lowest modulus =
+      ap (λ (y : Range). pos (y .low) +ℤ imm) (sym (ends .is-range)) ∙ sym (kept-displacement _ _ _ fit (ends .is-lowest)) in
+      let highest-is : pos (high k b) +ℤ imm ≡ subℕ highest modulus =
+      ap (λ (y : Range). pos (y .high) +ℤ imm) (sym (ends .is-range)) ∙ sym (kept-displacement _ _ _ fit (ends .is-highest)) in
+      rw (lowest-is, highest-is, ← ends .is-last)
+      (ap₂ _&&_ (at-least (l .base - l .guard) lowest) (at-most highest last (l .base + l .size - 1 + l .guard)))
+
+  pub too-low : lowest < modulus + l .base - l .guard → false ≡ isContained l k (record { pointer = b; width = w; displacement = imm })
+  too-low below = sym (two-tests ∙ rw (lt-leb (modulus + (l .base - l .guard)) lowest (omega (arith, kept .below))))
+
+  pub low-enough : modulus + l .base - l .guard ≤ lowest
+      → leb (highest + last) (modulus + l .base + l .size - 1 + l .guard) ≡ isContained l k (record { pointer = b; width = w; displacement = imm })
+  low-enough above =
+      let same-limit : modulus + l .base + l .size - 1 + l .guard ≡ modulus + (l .base + l .size - 1 + l .guard) = omega (arith, some-size kept) in
+      sym (two-tests ∙ rw (le-leb (modulus + (l .base - l .guard)) lowest (omega (arith, kept .below)), same-limit))
