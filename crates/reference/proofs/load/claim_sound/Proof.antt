@@ -1,0 +1,33 @@
+-- `reference::load::claim_sound` is safe and ends: the register is at most 8, and the measure is what is left. Assumes nothing.
+use Prim.Native.Nat.{_≤_, _-_}
+use borrow.Author.Needs.{needs}
+use Rattle.reference.proofs.load.claim_sound.Statement.{statement}
+use Rattle.reference.proofs.load.claim_sound.Tie as tie
+
+abbrev Inv-loop : tie.InvT-loop
+Inv-loop file at kind r₀ r = r ≤ 8
+
+abbrev μ-loop : tie.MeasureT-loop
+μ-loop file at kind r₀ r = 8 - r
+
+pub claim-sound-spec : {M : Type 1} → statement M
+claim-sound-spec =
+    tie.close
+    (tie.spec
+    Inv-loop
+    μ-loop
+    (λ c. search needs)
+    (λ c. search needs)
+    (λ c. search needs)
+    (λ c. search needs)
+    (λ c κs. search needs)
+    (λ c. search needs)
+    (λ c. search needs)
+    (λ c. search needs)
+    (λ c κs. search needs)
+    (λ c. search needs)
+    (λ c. search needs)
+    (λ c. search needs)
+    (λ c. search needs)
+    (λ c. search needs)
+    (λ c. search needs))

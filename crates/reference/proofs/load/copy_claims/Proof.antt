@@ -1,0 +1,33 @@
+-- `reference::load::copy_claims` is safe and ends: the entry is at most all of them, the claims keep their length, and the measure is what is left. Assumes nothing.
+use mathlib.Core.Path.{_≡_}
+use Prim.Native.Nat.{_≤_, _-_}
+use lib.ListN.{length}
+use borrow.Author.Needs.{needs}
+use Rattle.reference.proofs.load.copy_claims.Statement.{statement}
+use Rattle.reference.proofs.load.copy_claims.Tie as tie
+
+abbrev Inv-loop : tie.InvT-loop
+Inv-loop file n k claims₀ all t₀ claims t = (t ≤ all) × (length claims ≡ length claims₀)
+
+abbrev μ-loop : tie.MeasureT-loop
+μ-loop file n k claims₀ all t₀ claims t = all - t
+
+pub copy-claims-spec : {M : Type 1} → statement M
+copy-claims-spec =
+    tie.close
+    (tie.spec
+    Inv-loop
+    μ-loop
+    (λ c. search needs)
+    (λ c. search needs)
+    (λ c κs. search needs)
+    (λ c. search needs)
+    (λ c. search needs)
+    (λ c. search needs)
+    (λ c κs. search needs)
+    (λ c κs. search needs)
+    (λ c. search needs)
+    (λ c. search needs)
+    (λ c. search needs)
+    (λ c. search needs)
+    (λ c. search needs))

@@ -1,0 +1,25 @@
+-- `reference::load::unsound` is safe and ends: the door's number is at most k, and the measure is what is left. Assumes nothing.
+use Prim.Native.Nat.{_≤_, _-_}
+use borrow.Author.Needs.{needs}
+use Rattle.reference.proofs.load.unsound.Statement.{statement}
+use Rattle.reference.proofs.load.unsound.Tie as tie
+
+abbrev Inv-loop : tie.InvT-loop
+Inv-loop file n k j₀ j = j ≤ k
+
+abbrev μ-loop : tie.MeasureT-loop
+μ-loop file n k j₀ j = k - j
+
+pub unsound-spec : {M : Type 1} → statement M
+unsound-spec =
+    tie.close
+    (tie.spec
+    Inv-loop
+    μ-loop
+    (λ c. search needs)
+    (λ c κs. search needs)
+    (λ c. search needs)
+    (λ c. search needs)
+    (λ c. search needs)
+    (λ c. search needs)
+    (λ c. search needs))

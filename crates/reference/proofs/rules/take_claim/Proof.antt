@@ -1,0 +1,25 @@
+-- `reference::rules::take_claim` is safe and ends: the register is at most 8, and the measure is what is left. Assumes nothing.
+use Prim.Native.Nat.{_≤_, _-_}
+use borrow.Author.Needs.{needs}
+use Rattle.reference.proofs.rules.take_claim.Statement.{statement}
+use Rattle.reference.proofs.rules.take_claim.Tie as tie
+
+abbrev Inv-loop : tie.InvT-loop
+Inv-loop claims door lo₀ hi₀ r₀ lo hi r = r ≤ 8
+
+abbrev μ-loop : tie.MeasureT-loop
+μ-loop claims door lo₀ hi₀ r₀ lo hi r = 8 - r
+
+pub take-claim-spec : {M : Type 1} → statement M
+take-claim-spec =
+    tie.close
+    (tie.spec
+    Inv-loop
+    μ-loop
+    (λ c. search needs)
+    (λ c κs. search needs)
+    (λ c κs. search needs)
+    (λ c. search needs)
+    (λ c. search needs)
+    (λ c. search needs)
+    (λ c. search needs))

@@ -1,0 +1,95 @@
+// The rules of the scope document by tables: a module file is laid out in flat arrays, which are then
+// gone through by index. What lies past an array's end reads as 0, so no reader asks for a bound.
+mod field;
+mod know;
+mod load;
+mod machine;
+mod read;
+mod rules;
+
+use field::shape_of;
+use load::load;
+use machine::start;
+use machine::unrun;
+use read::low;
+use rules::judge_all;
+
+pub struct Judged {
+    pub accepted: bool,
+    pub first: u32,
+    pub second: u32,
+}
+
+pub struct Ran {
+    pub registers: [u32; 8],
+    pub place: u16,
+    pub refused: bool,
+    pub code: u32,
+    pub at: u32,
+    pub steps: u32,
+}
+
+fn refused(number: u32, place: usize) -> Judged {
+    Judged {
+        accepted: false,
+        first: number,
+        second: low(place),
+    }
+}
+
+// Accepted with instructions and doors, or refused with a number from 1 to 13 and its place.
+pub fn verify(file: &[u8]) -> Judged {
+    let shape = shape_of(file);
+    if shape.number != 0 {
+        return refused(shape.number, shape.place);
+    }
+    let mut code = [0u32; 32768];
+    let mut claims = [0u32; 4096];
+    let loaded = load(file, shape.n, shape.k, &mut code, &mut claims);
+    if loaded.number != 0 {
+        return refused(loaded.number, loaded.place);
+    }
+    let layout = shape.layout;
+    let judged = judge_all(&code, &claims, layout, shape.n);
+    if judged.number != 0 {
+        return refused(judged.number, judged.place);
+    }
+    Judged {
+        accepted: true,
+        first: low(shape.n),
+        second: low(shape.k),
+    }
+}
+
+// A run of at most budget steps: refused with a number of 1 to 7, 14 or 15, or with its ending, 0 halted,
+// 1 trapped, 2 turned away, 3 strayed, 4 spent.
+pub fn run(
+    file: &[u8],
+    registers: [u32; 8],
+    place: u16,
+    memory: &mut [u8],
+    offset: usize,
+    budget: u32,
+) -> Ran {
+    let shape = shape_of(file);
+    if shape.number != 0 {
+        return unrun(registers, place, shape.number, shape.place);
+    }
+    let mut code = [0u32; 32768];
+    let mut claims = [0u32; 4096];
+    let loaded = load(file, shape.n, shape.k, &mut code, &mut claims);
+    if loaded.number != 0 {
+        return unrun(registers, place, loaded.number, loaded.place);
+    }
+    let layout = shape.layout;
+    start(
+        &code,
+        layout,
+        shape.n,
+        registers,
+        place,
+        memory,
+        offset,
+        budget,
+    )
+}

@@ -1,0 +1,192 @@
+// The instructions and doors into flat arrays, and refusals 6 and 7. The code is eight planes of 4,096 entries;
+// the claims are sixteen entries for each door, lowest and highest of r0 to r7 in turn.
+ghost use Prim.Native.Nat.{_<_};
+use super::read::DOOR;
+use super::read::Ins;
+use super::read::KIND;
+use super::read::byte;
+use super::read::enter;
+use super::read::fetch;
+use super::read::half;
+use super::read::lay;
+use super::read::low;
+use super::read::wide;
+use super::read::word;
+
+// A refusal's number and place, the number 0 where there is none.
+pub struct Found {
+    pub number: u32,
+    pub place: usize,
+}
+
+// The largest value of each operand by opcode, 0 where it is unused.
+const A_MOST: [u32; 16] = [0, 7, 7, 7, 7, 7, 7, 7, 7, 7, 7, 7, 0, 7, 7, 7];
+
+const B_MOST: [u32; 16] = [0, 0, 7, 7, 0, 7, 0, 0, 0, 0, 7, 7, 0, 7, 0, 0];
+
+const W_MOST: [u32; 16] = [0, 0, 0, 0, 0, 0, 0, 0, 31, 31, 4, 4, 0, 2, 0, 0];
+
+const IMM_MOST: [u32; 16] = [
+    0,
+    4294967295,
+    0,
+    0,
+    4294967295,
+    0,
+    4294967295,
+    0,
+    0,
+    0,
+    4294967295,
+    4294967295,
+    4294967295,
+    4294967295,
+    0,
+    0,
+];
+
+fn readable(x: Ins) -> bool {
+    let op = wide(x.op);
+    if 15 < op {
+        return false;
+    }
+    if A_MOST[op] < x.a || B_MOST[op] < x.b {
+        return false;
+    }
+    if W_MOST[op] < x.w || IMM_MOST[op] < x.imm {
+        return false;
+    }
+    if op == 10 || op == 11 {
+        return x.w != 0 && x.w != 3;
+    }
+    true
+}
+
+fn decode_one(file: &[u8], i: usize, code: &mut [u32]) {
+    let at = 18 + i % 4096 * 8;
+    lay(code, 0, i, byte(file, at));
+    lay(code, 1, i, byte(file, at + 1));
+    lay(code, 2, i, byte(file, at + 2));
+    lay(code, 3, i, byte(file, at + 3));
+    lay(code, 4, i, word(file, at + 4));
+}
+
+fn decode(file: &[u8], n: usize, code: &mut [u32]) {
+    let mut i = 0;
+    while i < n {
+        decode_one(file, i, code);
+        i += 1;
+    }
+}
+
+// The lowest index of an instruction that cannot be read, n where there is none.
+fn unreadable(code: &[u32], n: usize) -> usize {
+    let mut i = 0;
+    while i < n {
+        if !readable(fetch(code, i)) {
+            return i;
+        }
+        i += 1;
+    }
+    n
+}
+
+// Where door j begins in the file.
+fn door_at(n: usize, j: usize) -> usize
+    ensures { λ r. ⌜ r < 1000000 ⌝ }
+{
+    21 + n % 8192 * 8 + j % 4096 * 68
+}
+
+// Whether each lowest is at most its highest, and in an open door each range is anything.
+fn claim_sound(file: &[u8], at: usize, kind: u32) -> bool {
+    let mut r = 0;
+    while r < 8 {
+        let lowest = word(file, at % 1000000 + 4 + r * 8);
+        let highest = word(file, at % 1000000 + 8 + r * 8);
+        if highest < lowest {
+            return false;
+        }
+        if kind == 1 && highest - lowest != 4294967295 {
+            return false;
+        }
+        r += 1;
+    }
+    true
+}
+
+fn door_sound(file: &[u8], n: usize, j: usize) -> bool {
+    let at = door_at(n, j);
+    let index = half(file, at);
+    let kind = byte(file, at + 2);
+    if n <= wide(index) || 1 < kind || byte(file, at + 3) != 0 {
+        return false;
+    }
+    if j == 0 {
+        if index != 0 || kind != 1 {
+            return false;
+        }
+    } else {
+        if index <= half(file, door_at(n, j - 1)) {
+            return false;
+        }
+    }
+    claim_sound(file, at, kind)
+}
+
+// The lowest number of a door that is not sound, k where there is none.
+fn unsound(file: &[u8], n: usize, k: usize) -> usize {
+    let mut j = 0;
+    while j < k {
+        if !door_sound(file, n, j) {
+            return j;
+        }
+        j += 1;
+    }
+    k
+}
+
+fn mark_doors(file: &[u8], n: usize, k: usize, code: &mut [u32]) {
+    let mut j = 0;
+    while j < k {
+        let at = door_at(n, j);
+        let index = wide(half(file, at));
+        lay(code, KIND, index, byte(file, at + 2) + 1);
+        lay(code, DOOR, index, low(j));
+        j += 1;
+    }
+}
+
+fn copy_claims(file: &[u8], n: usize, k: usize, claims: &mut [u32]) {
+    let all = k % 4096 * 16;
+    let mut t = 0;
+    while t < all {
+        let from = door_at(n, t / 16) + 4 + t % 16 * 4;
+        enter(claims, t, word(file, from));
+        t += 1;
+    }
+}
+
+pub fn load(file: &[u8], n: usize, k: usize, code: &mut [u32], claims: &mut [u32]) -> Found {
+    decode(file, n, code);
+    let bad = unreadable(code, n);
+    if bad < n {
+        return Found {
+            number: 6,
+            place: bad,
+        };
+    }
+    let worse = unsound(file, n, k);
+    if worse < k {
+        return Found {
+            number: 7,
+            place: worse,
+        };
+    }
+    mark_doors(file, n, k, code);
+    copy_claims(file, n, k, claims);
+    Found {
+        number: 0,
+        place: 0,
+    }
+}

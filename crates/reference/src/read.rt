@@ -1,0 +1,90 @@
+// Numbers out of bytes and flat arrays, and the planes of the decoded code.
+ghost use Prim.Native.Nat.{_<_};
+
+// The planes: each has 4,096 entries, one for each index. A kind is 0 for no door, 1 inner, 2 open.
+pub const KIND: usize = 5;
+
+pub const DOOR: usize = 6;
+
+// A decoded instruction, its unused operands zero.
+pub struct Ins {
+    pub op: u32,
+    pub a: u32,
+    pub b: u32,
+    pub w: u32,
+    pub imm: u32,
+}
+
+pub fn wide(x: u32) -> usize
+    ensures { λ r. ⌜ r < 4294967296 ⌝ }
+{
+    x as usize
+}
+
+pub fn low(x: usize) -> u32 {
+    (x % 4294967296) as u32
+}
+
+fn wide8(x: u8) -> u32
+    ensures { λ r. ⌜ r < 256 ⌝ }
+{
+    x as u32
+}
+
+pub fn byte(s: &[u8], i: usize) -> u32
+    ensures { λ r. ⌜ r < 256 ⌝ }
+{
+    if i < s.len() { wide8(s[i]) } else { 0 }
+}
+
+pub fn half(s: &[u8], i: usize) -> u32
+    ensures { λ r. ⌜ r < 65536 ⌝ }
+{
+    if i < 1000000 {
+        byte(s, i) + byte(s, i + 1) * 256
+    } else {
+        0
+    }
+}
+
+pub fn word(s: &[u8], i: usize) -> u32 {
+    if i < 1000000 {
+        half(s, i) + half(s, i + 2) * 65536
+    } else {
+        0
+    }
+}
+
+pub fn entry(s: &[u32], i: usize) -> u32 {
+    if i < s.len() { s[i] } else { 0 }
+}
+
+pub fn enter(s: &mut [u32], i: usize, v: u32) {
+    if i < s.len() {
+        s[i] = v;
+    }
+}
+
+pub fn plane(code: &[u32], p: usize, i: usize) -> u32 {
+    if i < 4096 {
+        entry(code, p % 8 * 4096 + i)
+    } else {
+        0
+    }
+}
+
+pub fn lay(code: &mut [u32], p: usize, i: usize, v: u32) {
+    if i < 4096 {
+        enter(code, p % 8 * 4096 + i, v);
+    }
+}
+
+pub fn fetch(code: &[u32], i: usize) -> Ins {
+    Ins {
+        op: plane(code, 0, i),
+        a: plane(code, 1, i),
+        b: plane(code, 2, i),
+        w: plane(code, 3, i),
+        imm: plane(code, 4, i),
+    }
+}
