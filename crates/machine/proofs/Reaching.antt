@@ -11,7 +11,6 @@ use native.Mathlib.Omega.{arith}
 use borrow.Author.Tests.{leb-true, le-leb, lt-leb}
 use lib.Dec.{leb}
 use lib.ListN.{length, getD, set}
-use lib.Pow.{pow-pos}
 use Rattle.model.specs.declared.Layout.{Layout}
 use Rattle.model.specs.declared.Width.{Width}
 use Rattle.model.specs.declared.Ending.the-variants.{Trapped, Violated}
@@ -20,6 +19,7 @@ use Rattle.model.specs.Instructions.{bytesOf}
 use Rattle.model.specs.Step.{inRegion, inZones, Effect, ends}
 use Rattle.model.specs.Rules.{LayoutKept}
 use Rattle.model.proofs.Tests.{and-left, and-right}
+use Rattle.model.proofs.Values.{some-size}
 use Rattle.machine.specs.declared.access.Reach.{Reach}
 use Rattle.machine.specs.declared.access.Reach.the-variants.{Inside, Guarded, Outside}
 use Rattle.machine.specs.Core.{reachOf, accessAt}
@@ -162,8 +162,5 @@ module _ (x : ℕ) (bytes : List ℕ) (at : ℕ) where
 -- ---- the guard
 
 module _ (l : Layout) (kept : LayoutKept l) where
-  pub size-positive : 0 < l .size
-  size-positive = rw (kept .power .3) (pow-pos (kept .power .0))
-
   pub guard-fits : (x : ℕ) → l .base + x % l .size < modulus
-  guard-fits x = let below : x % l .size < l .size = mod-lt x size-positive in omega (arith, kept .above)
+  guard-fits x = let below : x % l .size < l .size = mod-lt x (some-size kept) in omega (arith, kept .above)

@@ -2,12 +2,13 @@
 use mathlib.Core.Path.{refl}
 use native.Mathlib.Omega.{arith}
 use Rattle.model.specs.Instructions.{guarded}
-use Rattle.machine.proofs.Reaching.{size-positive, guard-fits}
+use Rattle.model.proofs.Values.{some-size}
+use Rattle.machine.proofs.Reaching.{guard-fits}
 use Rattle.machine.proofs.core.guard.Statement.{statement}
 use Rattle.machine.proofs.core.guard.Tie as tie
 
 rem-result : tie.Need-rem-result
-rem-result c = omega (arith, size-positive _ (c .before .pre))
+rem-result c = omega (arith, some-size (c .before .pre))
 
 add-result : tie.Need-add-result
 add-result c = record { fits = guard-fits _ (c .before .before .pre) _ }
