@@ -24,8 +24,10 @@ use Rattle.model.specs.Program.{isIndirect}
 use Rattle.model.specs.Instructions.{holds, reg, assigns, shape}
 use Rattle.model.specs.Step.{accessing, effect}
 use Rattle.model.specs.File.{programIn}
-use Rattle.model.specs.Rules.{LayoutKept}
+use Rattle.model.specs.Rules.{LayoutKept, FileKept}
 use Rattle.model.proofs.Targets.{code-length}
+use Rattle.reader.specs.declared.lookup.Table.{Table}
+use Rattle.reader.specs.Lookups.{tableIn}
 use Rattle.machine.specs.declared.places.Next.{Next}
 use Rattle.machine.specs.declared.places.Next.the-variants.{Ends}
 use Rattle.machine.specs.Core.{onwardOf, jumpOf, jumpViaOf, stepOf, StepPost, accessAt, AssignPost, LoadPost, StorePost, Ready}
@@ -36,7 +38,7 @@ pub displaced-by : (rs : List ℕ) (r x v : ℕ) (imm : ℤ) → mag imm < 0x800
     → v ≡ wrap (pos x +ℤ toZ w32 (ofZ w32 imm)) → v ≡ wrap (pos (reg rs r) +ℤ imm)
 displaced-by rs r x v imm small read made = rw (made, read, toZ-ofZ w32 imm (record { sfits = small }))
 
-module _ {file : List ℕ} {l : Layout} {n : ℕ} {bs : List ℕ} (ready : Ready file l n bs) where
+module _ {file : List ℕ} {targets : Table} {l : Layout} {n pc : ℕ} {bs : List ℕ} (ready : Ready file targets l n pc bs) where
   pub layout-ready : programIn file .layout ≡ l
   unfolding programIn
   layout-ready = sym (ready .layout-is)
@@ -49,6 +51,9 @@ module _ {file : List ℕ} {l : Layout} {n : ℕ} {bs : List ℕ} (ready : Ready
 
   pub room-ready : length bs ≡ l .size
   room-ready = ready .room ∙ ap (λ (x : Layout). x .size) (sym (ready .layout-is))
+
+  pub targets-ready : (FileKept file) × (targets ≡ tableIn file)
+  targets-ready = (ready .kept, ready .targets-is)
 
   module _ (m : Machine) {i j : Instruction} (told : i ≡ j) (next : Next) where
     -- an instruction that assigns a value

@@ -1,8 +1,8 @@
 -- A call: what is judged before its steps, and what the host sees of it. Assumes nothing.
 use Prim.Native.Nat.{ℕ, _+_, _-_, _≤_, _<_}
-use mathlib.Core.Path.{_≡_, refl, sym, ap, _∙_}
+use mathlib.Core.Path.{_≡_, sym, ap, _∙_}
 use mathlib.Core.List.{List, _++_}
-use mathlib.Core.Option.{none, some}
+use mathlib.Core.Option.{some}
 use native.Mathlib.Nat.{add-sub-cancel-left}
 use lib.ListN.{length, take, drop}
 use borrow.Author.Tests.{lt-ltb, le-ltb, lt-leb}
@@ -19,6 +19,8 @@ use Rattle.model.proofs.Accepted.{readable-iff}
 use Rattle.model.proofs.Faults.{head-met, head-unmet, append-faultless, append-faulty}
 use Rattle.model.proofs.JoiningCalls.{runOn-runs}
 use Rattle.model.proofs.Memory.{stretch-length}
+use Rattle.reader.specs.declared.lookup.Table.{Table}
+use Rattle.reader.specs.Lookups.{tableIn}
 use Rattle.machine.specs.Core.{Ready, LoopPost, refusedWith, seenOf}
 
 -- the part that is lent, from the offset to the offset plus the size, has the region's size
@@ -56,11 +58,14 @@ module _ (file : List ℕ) (m : Machine) (memory : List ℕ) (offset : ℕ) wher
         pub has-room : Runnable file m memory offset
         has-room = record { file-rules = kept; pc-inside = rw counted at inside; fits = rw laid at fits }
 
-        pub part-ready : Ready file layout n (take (offset + layout .size - offset) (drop offset memory))
-        part-ready = record {
+        pub part-ready : (targets : Table) → targets ≡ tableIn file
+            → Ready file targets layout n (m .pc) (take (offset + layout .size - offset) (drop offset memory))
+        part-ready targets listed = record {
           kept = kept;
+          targets-is = listed;
           layout-is = laid;
           count-is = counted;
+          pc-inside = inside;
           room = rw (part-size file offset layout laid) (stretch-length offset (layoutIn file .size) memory (rw laid at fits));
         }
 

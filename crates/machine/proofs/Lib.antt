@@ -6,4 +6,5 @@ pub mod Fetching
 pub mod Looping
 pub mod Calling
 pub mod Lending
+pub mod Handing
 pub mod Joined

@@ -17,6 +17,7 @@ use Rattle.model.specs.Run.{Run, run, steps}
 use Rattle.model.proofs.Steady.{Steady}
 use Rattle.model.proofs.Targets.{code-length, readable-steady}
 use Rattle.model.proofs.Joining.{Continues, continues-refl, continues-trans, continues-step, run-ends}
+use Rattle.reader.specs.declared.lookup.Table.{Table}
 use Rattle.machine.specs.declared.places.Next.{Next}
 use Rattle.machine.specs.declared.places.Next.the-variants.{To, Ends}
 use Rattle.machine.specs.Core.{nextFor, StepPost, Ready, LoopPost}
@@ -60,16 +61,22 @@ run-over r rest made comes = record {
   region = sym (comes .region);
 }
 
-module _ {file : List ℕ} {l : Layout} {n budget : ℕ} {start m : Machine} {region₀ region : List ℕ} {made : ℕ}
-    (ready : Ready file l n region₀) (so-far : Underway file n budget start region₀ m region made) where
+module _ {file : List ℕ} {targets : Table} {l : Layout} {n budget : ℕ} {start m : Machine} {region₀ region : List ℕ} {made : ℕ}
+    (ready : Ready file targets l n (start .pc) region₀) (so-far : Underway file n budget start region₀ m region made) where
   -- the core is given what it was given at first
-  pub still-ready : Ready file l n region
+  pub still-ready : Ready file targets l n (m .pc) region
   still-ready = record {
     kept = ready .kept;
+    targets-is = ready .targets-is;
     layout-is = ready .layout-is;
     count-is = ready .count-is;
+    pc-inside = so-far .inside;
     room = so-far .room ∙ ready .room;
   }
+
+  -- the index of an instruction is small
+  pub small-pc : m .pc < 65536
+  small-pc = omega arith
 
   module _ (left : made < budget) {next : Next} {rs′ region′ : List ℕ}
       (stepped : StepPost (step (programIn file) m region) next rs′ region′) where

@@ -9,6 +9,7 @@ use native.Mathlib.Nat.{mod-lt}
 use native.Mathlib.Numerals.{add-one}
 use native.Mathlib.Omega.{arith}
 use borrow.Author.Tests.{leb-true, le-leb, lt-leb}
+use lib.Bits.{bitAnd, and-mask}
 use lib.Dec.{leb}
 use lib.ListN.{length, getD, set}
 use Rattle.model.specs.declared.Layout.{Layout}
@@ -135,9 +136,9 @@ module _ (w v : Width) (told : w ≡ v) (bytes : List ℕ) (at : ℕ) where
   pub fits-as : at + bytesOf w ≤ length bytes → at + bytesOf v ≤ length bytes
   fits-as fits = rw told at fits
 
-pub one-byte : (bytes : List ℕ) (at : ℕ) → getD bytes at 0 ≡ readBytes 1 bytes at
+pub one-byte : (bytes : List ℕ) (at r : ℕ) → r ≡ getD bytes at 0 → r ≡ readBytes 1 bytes at
 unfolding readBytes
-one-byte bytes at = omega arith
+one-byte bytes at r read = omega arith
 
 module _ (x : ℕ) (bytes : List ℕ) (at : ℕ) where
   pub writes-one : set bytes at (x % 256) ≡ writeBytes 1 x bytes at
@@ -161,6 +162,10 @@ module _ (x : ℕ) (bytes : List ℕ) (at : ℕ) where
 
 -- ---- the guard
 
-module _ (l : Layout) (kept : LayoutKept l) where
-  pub guard-fits : (x : ℕ) → l .base + x % l .size < modulus
-  guard-fits x = let below : x % l .size < l .size = mod-lt x (some-size kept) in omega (arith, kept .above)
+module _ (l : Layout) (kept : LayoutKept l) (x : ℕ) where
+  -- the size is a power of two, so the mask below it leaves the rest
+  pub masked : bitAnd x (l .size - 1) ≡ x % l .size
+  masked = rw (kept .power .3) (and-mask x (kept .power .0))
+
+  pub guard-fits : l .base + bitAnd x (l .size - 1) < modulus
+  guard-fits = omega (arith, masked, mod-lt x (some-size kept), kept .above)

@@ -1,5 +1,5 @@
 -- What the machine's parts answer, in the model's terms. Assumes nothing.
-use Prim.Native.Nat.{ℕ, _+_, _-_}
+use Prim.Native.Nat.{ℕ, _+_, _-_, _<_}
 use mathlib.Core.Path.{_≡_}
 use mathlib.Core.Bool.{cond}
 use mathlib.Core.List.{List}
@@ -25,6 +25,8 @@ use Rattle.model.specs.Step.{inRegion, inZones, Effect, goesOn, ends, reaches, 
 use Rattle.model.specs.File.{instructionCount, layoutIn}
 use Rattle.model.specs.Rules.{FileKept}
 use Rattle.model.specs.Run.{Run, steps, Seen}
+use Rattle.reader.specs.declared.lookup.Table.{Table}
+use Rattle.reader.specs.Lookups.{tableIn}
 use Rattle.machine.specs.declared.access.Reach.{Reach}
 use Rattle.machine.specs.declared.access.Reach.the-variants.{Inside, Guarded, Outside}
 use Rattle.machine.specs.declared.places.Next.{Next}
@@ -90,11 +92,14 @@ StorePost l n pc bs value w at next bs′ =
     (rs : List ℕ) → Settles n (record { registers = rs; pc = pc }) bs
     (accessAt l at w (goesOn rs (writeBytes (bytesOf w) value bs (at - l .base)))) next rs bs′
 
--- what the core is given: a file that keeps rules 1 to 7, its layout and count, and a region of its size
-pub record Ready (file : List ℕ) (layout : Layout) (n : ℕ) (region : List ℕ) : Type 0 where
+-- what the core is given: a file that keeps rules 1 to 7, where its targets stand, its layout and count, an index of it, and a
+-- region of its size
+pub record Ready (file : List ℕ) (targets : Table) (layout : Layout) (n pc : ℕ) (region : List ℕ) : Type 0 where
   pub kept : FileKept file
+  pub targets-is : targets ≡ tableIn file
   pub layout-is : layout ≡ layoutIn file
   pub count-is : n ≡ instructionCount file
+  pub pc-inside : pc < n
   pub room : length region ≡ layoutIn file .size
 
 -- ---- a run

@@ -66,7 +66,15 @@ fn run_readable(
         );
     }
     let end = offset + size;
-    core::run_in(file, layout, n, machine, &mut memory[offset..end], budget)
+    core::run_in(
+        file,
+        reader::lookup::table_in(file),
+        layout,
+        n as usize,
+        machine,
+        &mut memory[offset..end],
+        budget,
+    )
 }
 
 // A run of the module in `file`, on the region that begins at `offset` of the memory, with a budget of steps.

@@ -66,13 +66,13 @@ pub enum Instruction {
         imm: i32,
     },
     Jump {
-        to: u32,
+        to: usize,
     },
     Branch {
         a: u8,
         b: u8,
         test: Test,
-        to: u32,
+        to: usize,
     },
     Check {
         a: u8,
@@ -109,7 +109,9 @@ pub struct Target {
     pub claim: Ranges,
 }
 
-// The state that a run changes (the machine record); pc is the index of the next instruction (its place).
+// The state that a run changes (the machine record); pc is the index of the next instruction (its place). Hosts in other
+// languages lend it too, so its layout is C's.
+#[repr(C)]
 pub struct Machine {
     pub registers: [u32; 8],
     pub pc: u16,

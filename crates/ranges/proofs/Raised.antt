@@ -1,21 +1,20 @@
--- Rule W on ends that are kept raised by 2^32: the seven ways of the code, and the raised ends of sums, differences and
--- displacements. Assumes nothing.
-use Prim.Native.Nat.{ℕ, suc, _+_, _-_, _%_, _≤_, _<_}
-use mathlib.Core.Path.{_≡_, refl, sym, ap, ap₂, subst, _∙_}
+-- Rule W on ends that are kept raised by 2^32: what two such ends make by how often each holds 2^32, and the raised ends of sums,
+-- differences and displacements. Assumes nothing.
+use Prim.Native.Nat.{ℕ, suc, _+_, _-_, _/_, _%_, _≤_, _<_}
+use mathlib.Core.Path.{_≡_, refl, sym, ap, ap₂, _∙_}
 use mathlib.Core.Bool.{Bool, true, false}
 use native.Mathlib.Omega.{arith}
 use lib.Dec.{T, ltb}
-use lib.IntN.{ℤ, pos, negsuc, natAbs, _+ℤ_, _-ℤ_, subℕ}
-use lib.Signed.{leZ}
+use lib.IntN.{ℤ, pos, negsuc, natAbs, _+ℤ_, subℕ}
+use lib.Signed.{nonNeg}
 use borrow.Author.Tests.{le-leb, lt-leb, lt-ltb, le-ltb, ltb-true, ltb-false}
-use mir.Syntax.{w32}
-use mir.Val.{SFits, ofZ, toZ}
-use mir.ValLaws.{toZ-ofZ}
+use mir.Syntax.{w32, w64}
+use mir.Val.{Fits, SFits, ofZ, toZ}
+use mir.ValLaws.{toZ-pos, toZ-ofZ}
 use Rattle.model.specs.declared.Range.{Range}
-use Rattle.model.specs.Words.{modulus, wrap}
+use Rattle.model.specs.Words.{modulus}
 use Rattle.model.specs.Ranges.{range, anything, ruleW}
 use Rattle.model.proofs.Tests.{by-cond, cond-true, cond-false}
-use Rattle.words.proofs.Signed.{up-is-word, down-below-half, down-is-word}
 
 -- what a raised end stands for: a negative number below 2^32, a natural number from there on
 negative : (n : ℕ) → n < modulus → subℕ n modulus ≡ negsuc (modulus - suc n)
@@ -24,61 +23,70 @@ negative n below = cond-true (ltb n modulus) (negsuc (modulus - suc n)) (pos (n 
 natural : (n : ℕ) → modulus ≤ n → subℕ n modulus ≡ pos (n - modulus)
 natural n above = cond-false (ltb n modulus) (negsuc (modulus - suc n)) (pos (n - modulus)) (le-ltb n modulus above)
 
--- rule W on two raised ends
-abbrev ruled : ℕ → ℕ → Range
-ruled l h = ruleW (subℕ l modulus) (subℕ h modulus)
-
-module _ (l h : ℕ) where
-  pub both-negative : l < modulus → h < modulus → range l h ≡ ruled l h
+-- rule W on two natural numbers below 2^33: how often each holds 2^32 is the same, 0 or 1, or not
+module _ (l h : ℕ) (low-below : l < modulus + modulus) (high-below : h < modulus + modulus) where
+  naturals-alike : l / modulus ≡ h / modulus → range (l % modulus) (h % modulus) ≡ ruleW (pos l) (pos h)
   unfolding ruleW
-  both-negative low-below high-below = sym (rw (negative l low-below, negative h high-below) (ap₂ range (omega arith) (omega arith)))
-
-  pub low-negative : l < modulus → modulus ≤ h → anything ≡ ruled l h
-  unfolding ruleW
-  low-negative low-below high-above = sym (rw (negative l low-below, natural h high-above))
-
-  pub high-negative : modulus ≤ l → h < modulus → anything ≡ ruled l h
-  unfolding ruleW
-  high-negative low-above high-below = sym (rw (natural l low-above, negative h high-below))
-
-  module _ (low-above : modulus ≤ l) (high-above : modulus ≤ h) where
-    naturals : ruleW (pos (l - modulus)) (pos (h - modulus)) ≡ ruled l h
-    naturals = sym (ap₂ ruleW (natural l low-above) (natural h high-above))
-
-    pub both-words : l < modulus + modulus → h < modulus + modulus → range (l - modulus) (h - modulus) ≡ ruled l h
-    unfolding ruleW
-    both-words low-below high-below =
-        sym (rw (lt-ltb (l - modulus) modulus (omega arith), lt-ltb (h - modulus) modulus (omega arith))) ∙ naturals
-
-    pub high-over : l < modulus + modulus → modulus + modulus ≤ h → anything ≡ ruled l h
-    unfolding ruleW
-    high-over low-below high-reaches =
-        sym (rw
-        (lt-ltb (l - modulus) modulus (omega arith), le-ltb (h - modulus) modulus (omega arith), lt-leb modulus (l - modulus) (omega arith)))
-        ∙ naturals
-
-    pub both-over : modulus + modulus ≤ l → modulus + modulus ≤ h
-        → range (l - (modulus + modulus)) (h - (modulus + modulus)) ≡ ruled l h
-    unfolding ruleW
-    both-over low-reaches high-reaches =
-        sym (rw
-        (le-ltb (l - modulus) modulus (omega arith), le-leb modulus (l - modulus) (omega arith), le-leb modulus (h - modulus) (omega arith))
-        (ap₂ range (omega arith) (omega arith)))
-        ∙ naturals
-
-    low-over : modulus + modulus ≤ l → h < modulus + modulus → anything ≡ ruled l h
-    unfolding ruleW
-    low-over low-reaches high-below =
-        sym (rw
-        (le-ltb (l - modulus) modulus (omega arith), le-leb modulus (l - modulus) (omega arith), lt-leb modulus (h - modulus) (omega arith)))
-        ∙ naturals
-
-  pub only-low-over : modulus + modulus ≤ l → h < modulus + modulus → anything ≡ ruled l h
-  only-low-over low-reaches high-below = by-sign (ltb h modulus) refl
+  naturals-alike alike = by-low (ltb l modulus) refl
     where
-      by-sign : (b : Bool) → ltb h modulus ≡ b → anything ≡ ruled l h
-      by-sign true below = high-negative (omega arith) (ltb-true h modulus below)
-      by-sign false above = low-over (omega arith) (ltb-false h modulus above) low-reaches high-below
+      by-low : (b : Bool) → ltb l modulus ≡ b → range (l % modulus) (h % modulus) ≡ ruleW (pos l) (pos h)
+      by-low true t =
+          let below : l < modulus = ltb-true l modulus t in
+          sym (rw (t, lt-ltb h modulus (omega arith)) (ap₂ range (omega arith) (omega arith)))
+      by-low false f =
+          let above : modulus ≤ l = ltb-false l modulus f in
+          sym (rw (f, le-leb modulus l above, le-leb modulus h (omega arith)) (ap₂ range (omega arith) (omega arith)))
+
+  naturals-apart : (l / modulus ≡ h / modulus → ⊥) → anything ≡ ruleW (pos l) (pos h)
+  unfolding ruleW
+  naturals-apart apart = by-low (ltb l modulus) refl
+    where
+      by-low : (b : Bool) → ltb l modulus ≡ b → anything ≡ ruleW (pos l) (pos h)
+      by-low true t =
+          let below : l < modulus = ltb-true l modulus t in
+          sym (rw (t, le-ltb h modulus (omega arith), lt-leb modulus l below))
+      by-low false f =
+          let above : modulus ≤ l = ltb-false l modulus f in
+          sym (rw (f, le-leb modulus l above, lt-leb modulus h (omega arith)))
+
+-- rule W on two raised ends, by the sign of what each stands for
+module _ (l h : ℕ) where
+  by-signs : (r : Range)
+      → (l < modulus → h < modulus → r ≡ ruleW (negsuc (modulus - suc l)) (negsuc (modulus - suc h)))
+      → (l < modulus → modulus ≤ h → r ≡ anything)
+      → (modulus ≤ l → h < modulus → r ≡ anything)
+      → (modulus ≤ l → modulus ≤ h → r ≡ ruleW (pos (l - modulus)) (pos (h - modulus)))
+      → r ≡ ruleW (subℕ l modulus) (subℕ h modulus)
+  unfolding ruleW
+  by-signs r negatives low-negative high-negative naturals =
+      by-cond (λ (z : ℤ). r ≡ ruleW z (subℕ h modulus)) (ltb l modulus)
+      (λ t. by-cond (λ (z : ℤ). r ≡ ruleW (negsuc (modulus - suc l)) z) (ltb h modulus)
+      (λ u. negatives (ltb-true l modulus t) (ltb-true h modulus u))
+      (λ u. low-negative (ltb-true l modulus t) (ltb-false h modulus u)))
+      (λ t. by-cond (λ (z : ℤ). r ≡ ruleW (pos (l - modulus)) z) (ltb h modulus)
+      (λ u. high-negative (ltb-false l modulus t) (ltb-true h modulus u))
+      (λ u. naturals (ltb-false l modulus t) (ltb-false h modulus u)))
+
+  -- both lie below 3 * 2^32, so that what they stand for, if natural, lies below 2^33
+  module _ (low-below : l < 0x3_0000_0000) (high-below : h < 0x3_0000_0000) where
+    pub ends-alike : l / modulus ≡ h / modulus → range (l % modulus) (h % modulus) ≡ ruleW (subℕ l modulus) (subℕ h modulus)
+    unfolding ruleW
+    ends-alike alike =
+        by-signs (range (l % modulus) (h % modulus))
+        (λ below below-too. ap₂ range (omega arith) (omega arith))
+        (λ below above. absurd (omega arith))
+        (λ above below. absurd (omega arith))
+        (λ above above-too.
+        ap₂ range (omega arith) (omega arith)
+        ∙ naturals-alike (l - modulus) (h - modulus) (omega arith) (omega arith) (omega arith))
+
+    pub ends-apart : (l / modulus ≡ h / modulus → ⊥) → anything ≡ ruleW (subℕ l modulus) (subℕ h modulus)
+    ends-apart apart =
+        by-signs anything
+        (λ below below-too. absurd (apart (omega arith)))
+        (λ below above. refl)
+        (λ above below. refl)
+        (λ above above-too. naturals-apart (l - modulus) (h - modulus) (omega arith) (omega arith) (λ same. apart (omega arith)))
 
 -- the raised end of a sum
 pub raised-sum : (x y a b : ℕ) → a ≡ x → b ≡ y → subℕ (modulus + a + b) modulus ≡ pos x +ℤ pos y
@@ -91,28 +99,66 @@ raised-difference x y a b is-x is-y small =
     (λ t. let below : x < y = ltb-true x y t in negative (modulus + a - b) (omega arith) ∙ ap negsuc (omega arith))
     (λ f. let above : y ≤ x = ltb-false x y f in natural (modulus + a - b) (omega arith) ∙ ap pos (omega arith))
 
--- and of an end with a signed displacement z, whose bits the code reads as a signed number again: of z from 0 up, v is z
-pub raised-up : (x a v : ℕ) (z : ℤ) → SFits w32 z → leZ (pos 0) (toZ w32 (ofZ w32 z)) ≡ true
-    → a ≡ x → v ≡ natAbs (toZ w32 (ofZ w32 z)) → subℕ (modulus + a + v) modulus ≡ pos x +ℤ z
-unfolding wrap
-raised-up x a v (pos n) fit up is-x is-v =
-    let word : v ≡ n % modulus = is-v ∙ up-is-word (pos n) fit up in
-    raised-sum x n a v is-x (omega (arith, fit .sfits))
-raised-up x a v (negsuc n) fit up is-x is-v = absurd (subst T (sym (rw (toZ-ofZ w32 (negsuc n) fit) at up)) tt)
+-- and of an end with a signed displacement z: the exact sum, raised
+abbrev raised : ℕ → ℤ → ℕ
+raised x (pos n) = modulus + x + n
+raised x (negsuc n) = modulus + x - suc n
 
--- and below 0, v is -1 - z
-pub raised-down : (x a v : ℕ) (z : ℤ) → SFits w32 z → leZ (pos 0) (toZ w32 (ofZ w32 z)) ≡ false
-    → a ≡ x → v ≡ natAbs (toZ w32 (ofZ w32 (negsuc 0 -ℤ toZ w32 (ofZ w32 z))))
-    → subℕ (modulus + a - v - 1) modulus ≡ pos x +ℤ z
-unfolding wrap
-raised-down x a v (pos n) fit down is-x is-v =
-    absurd (subst T (rw (toZ-ofZ w32 (pos n) fit) at down) (rw (le-leb 0 n (omega arith)) tt))
-raised-down x a v (negsuc n) fit down is-x is-v =
-    let small : v < 0x8000_0000 = rw is-v (down-below-half (negsuc n) fit down) in
-    let word : 0xFFFF_FFFF - v ≡ modulus - suc (n % modulus) = ap (λ (m : ℕ). 0xFFFF_FFFF - m) is-v ∙ down-is-word (negsuc n) fit down in
-    let distance : v ≡ n = omega (arith, fit .sfits) in
-    let same : modulus + a - v - 1 ≡ modulus + a - suc v = omega arith in
-    ap (λ (m : ℕ). subℕ m modulus) same ∙ raised-difference x (suc n) a (suc v) is-x (ap suc distance) (omega arith)
+raised-stands-for : (x : ℕ) (z : ℤ) → SFits w32 z → subℕ (raised x z) modulus ≡ pos x +ℤ z
+raised-stands-for x (pos n) fit = raised-sum x n x n refl refl
+raised-stands-for x (negsuc n) fit = raised-difference x (suc n) x (suc n) refl refl (omega (arith, fit .sfits))
+
+pub widened-fits : (z : ℤ) → SFits w32 z → SFits w64 (toZ w32 (ofZ w32 z))
+widened-fits z fit = rw (toZ-ofZ w32 z fit) (record { sfits = omega (arith, fit .sfits) })
+
+module _ (x : ℕ) (small : x < modulus) where
+  raised-below : (z : ℤ) → SFits w32 z → raised x z < 0x3_0000_0000
+  raised-below (pos n) fit = omega (arith, fit .sfits)
+  raised-below (negsuc n) fit = omega arith
+
+  sum-fits : (z : ℤ) → SFits w32 z → SFits w64 (pos x +ℤ z)
+  sum-fits (pos n) fit = record { sfits = omega (arith, fit .sfits) }
+  sum-fits (negsuc n) fit =
+      by-cond (SFits w64) (ltb x (suc n)) (λ t. record { sfits = omega (arith, fit .sfits) }) (λ f. record { sfits = omega arith })
+
+  sum-raised : (z : ℤ) → SFits w32 z → (pos x +ℤ z) +ℤ pos modulus ≡ pos (raised x z)
+  sum-raised (pos n) fit = ap pos (omega arith)
+  sum-raised (negsuc n) fit =
+      by-cond (λ (y : ℤ). y +ℤ pos modulus ≡ pos (modulus + x - suc n)) (ltb x (suc n))
+      (λ t.
+      let below : x < suc n = ltb-true x (suc n) t in
+      let least : suc (suc n - suc x) ≤ modulus = omega (arith, fit .sfits) in
+      cond-false (ltb modulus (suc (suc n - suc x))) _ _ (le-ltb modulus (suc (suc n - suc x)) least) ∙ ap pos (omega arith))
+      (λ f. let above : suc n ≤ x = ltb-false x (suc n) f in ap pos (omega arith))
+
+  -- the code's sum, of which each part is kept as bits and read as a signed number again
+  module _ (z : ℤ) (fit : SFits w32 z) where
+    abbrev exact : ℤ
+    exact = toZ w64 x +ℤ toZ w64 (ofZ w64 (toZ w32 (ofZ w32 z)))
+
+    abbrev lifted : ℤ
+    lifted = toZ w64 (ofZ w64 exact) +ℤ pos modulus
+
+    exact-is : exact ≡ pos x +ℤ z
+    exact-is = ap₂ _+ℤ_ (toZ-pos w64 x (omega arith)) (toZ-ofZ w64 _ (widened-fits z fit) ∙ toZ-ofZ w32 z fit)
+
+    pub exact-fits : SFits w64 exact
+    exact-fits = rw exact-is (sum-fits z fit)
+
+    lifted-is : lifted ≡ pos (raised x z)
+    lifted-is = ap (λ (y : ℤ). y +ℤ pos modulus) (toZ-ofZ w64 exact exact-fits ∙ exact-is) ∙ sum-raised z fit
+
+    pub lifted-fits : SFits w64 lifted
+    lifted-fits = rw lifted-is (record { sfits = omega (arith, raised-below z fit) })
+
+    result-is : toZ w64 (ofZ w64 lifted) ≡ pos (raised x z)
+    result-is = toZ-ofZ w64 lifted lifted-fits ∙ lifted-is
+
+    pub result-casts : T (nonNeg (toZ w64 (ofZ w64 lifted))) × Fits w64 (natAbs (toZ w64 (ofZ w64 lifted)))
+    result-casts = rw result-is (tt, record { fits = omega (arith, raised-below z fit) })
+
+    pub result-raised : (subℕ (natAbs (toZ w64 (ofZ w64 lifted))) modulus ≡ pos x +ℤ z) × (natAbs (toZ w64 (ofZ w64 lifted)) < 0x3_0000_0000)
+    result-raised = rw result-is (raised-stands-for x z fit, raised-below z fit)
 
 -- an end that was displaced by what was kept as bits
 pub kept-displacement : (x : ℕ) (e z : ℤ) → SFits w32 z → e ≡ pos x +ℤ toZ w32 (ofZ w32 z) → e ≡ pos x +ℤ z

@@ -7,16 +7,13 @@ use model::Test;
 ghost use mathlib.Core.Path.{_≡_};
 ghost use mathlib.Core.Bool.{true, false};
 ghost use Prim.Native.Nat.{min, max};
-ghost use Rattle.model.specs.Ranges.{common, isEmpty, cut, cutBoth, cutFor, ruleB};
+ghost use Rattle.model.specs.Ranges.{common, isEmpty, ruleB};
+ghost use Rattle.ranges.specs.Pairs.{cutRange, cutRanges, cutPair};
 
-// What two ranges have in common.
-fn common(x: Range, y: Range) -> Range
-    ensures { λ r. ⌜ r ≡ common x y ⌝ }
-{
-    Range {
-        low: larger(x.low, y.low),
-        high: smaller(x.high, y.high),
-    }
+// Two registers' ranges.
+pub struct Pair {
+    pub first: Range,
+    pub second: Range,
 }
 
 fn larger(x: u32, y: u32) -> u32
@@ -31,95 +28,131 @@ fn smaller(x: u32, y: u32) -> u32
     if x < y { x } else { y }
 }
 
+// What two ranges have in common.
+fn common(x: Range, y: Range) -> Range
+    ensures { λ r. ⌜ r ≡ common x y ⌝ }
+{
+    Range {
+        low: larger(x.low, y.low),
+        high: smaller(x.high, y.high),
+    }
+}
+
 fn is_empty(x: Range) -> bool
     ensures { λ r. ⌜ r ≡ isEmpty x ⌝ }
 {
     x.high < x.low
 }
 
-// A register's range is cut to another, unless nothing would be left of it.
-pub fn cut(k: Ranges, r: u8, x: Range) -> Ranges
-    ensures { λ y. ⌜ y ≡ cut k r x ⌝ }
+// A range is cut to another, unless nothing would be left of it.
+pub fn cut(x: Range, to: Range) -> Range
+    ensures { λ r. ⌜ r ≡ cutRange x to ⌝ }
 {
-    let left = common(range_of(k, r), x);
+    let left = common(x, to);
+    if is_empty(left) { x } else { left }
+}
+
+// x is cut to p and y to q, both or none.
+fn cut_both(x: Range, p: Range, y: Range, q: Range) -> Pair
+    ensures { λ r. ⌜ r ≡ cutRanges x p y q ⌝ }
+{
+    let left = common(x, p);
+    let right = common(y, q);
     if is_empty(left) {
-        return k;
+        return Pair {
+            first: x,
+            second: y,
+        };
     }
-    put(k, r, left)
+    if is_empty(right) {
+        return Pair {
+            first: x,
+            second: y,
+        };
+    }
+    Pair {
+        first: left,
+        second: right,
+    }
 }
 
-// Two registers' ranges are cut, both or none.
-pub fn cut_both(k: Ranges, a: u8, x: Range, b: u8, y: Range) -> Ranges
-    ensures { λ z. ⌜ z ≡ cutBoth k a x b y ⌝ }
+// Rule B on the ranges of two registers that differ, along the taken edge.
+fn cut_taken(test: Test, x: Range, y: Range) -> Pair
+    ensures { λ r. ⌜ r ≡ cutPair test true x y ⌝ }
 {
-    let first = common(range_of(k, a), x);
-    let second = common(range_of(k, b), y);
-    if is_empty(first) {
-        return k;
-    }
-    if is_empty(second) {
-        return k;
-    }
-    put(put(k, a, first), b, second)
-}
-
-// Rule B for two registers that differ, along the taken edge.
-fn cut_taken(test: Test, a: u8, b: u8, k: Ranges) -> Ranges
-    ensures { λ z. ⌜ z ≡ cutFor test true a b k ⌝ }
-{
-    let x = range_of(k, a);
-    let y = range_of(k, b);
     match test {
-        Test::Equal => cut_both(k, a, y, b, x),
+        Test::Equal => cut_both(x, y, y, x),
         Test::Below => {
             let low = x.low;
             let high = y.high;
             if high == 0 {
-                return k;
+                return Pair {
+                    first: x,
+                    second: y,
+                };
             }
             if low == 0xFFFF_FFFF {
-                return k;
+                return Pair {
+                    first: x,
+                    second: y,
+                };
             }
             cut_both(
-                k,
-                a,
+                x,
                 Range {
                     low: 0,
                     high: high - 1,
                 },
-                b,
+                y,
                 Range {
                     low: low + 1,
                     high: 0xFFFF_FFFF,
                 },
             )
         }
-        Test::SignedBelow => k,
+        Test::SignedBelow => Pair {
+            first: x,
+            second: y,
+        },
     }
 }
 
-// Rule B for two registers that differ, along the edge to the next index.
-fn cut_next(test: Test, a: u8, b: u8, k: Ranges) -> Ranges
-    ensures { λ z. ⌜ z ≡ cutFor test false a b k ⌝ }
+// The same along the edge to the next index.
+fn cut_next(test: Test, x: Range, y: Range) -> Pair
+    ensures { λ r. ⌜ r ≡ cutPair test false x y ⌝ }
 {
-    let x = range_of(k, a);
-    let y = range_of(k, b);
     match test {
-        Test::Equal => k,
+        Test::Equal => Pair {
+            first: x,
+            second: y,
+        },
         Test::Below => cut_both(
-            k,
-            a,
+            x,
             Range {
                 low: y.low,
                 high: 0xFFFF_FFFF,
             },
-            b,
+            y,
             Range {
                 low: 0,
                 high: x.high,
             },
         ),
-        Test::SignedBelow => k,
+        Test::SignedBelow => Pair {
+            first: x,
+            second: y,
+        },
+    }
+}
+
+// Rule B on the ranges of two registers that differ.
+pub fn cut_pair(test: Test, taken: bool, x: Range, y: Range) -> Pair
+    ensures { λ r. ⌜ r ≡ cutPair test taken x y ⌝ }
+{
+    if taken {
+        cut_taken(test, x, y)
+    } else {
+        cut_next(test, x, y)
     }
 }
 
@@ -130,9 +163,6 @@ pub fn rule_b(test: Test, taken: bool, a: u8, b: u8, k: Ranges) -> Ranges
     if a == b {
         return k;
     }
-    if taken {
-        cut_taken(test, a, b, k)
-    } else {
-        cut_next(test, a, b, k)
-    }
+    let pair = cut_pair(test, taken, range_of(k, a), range_of(k, b));
+    put(put(k, a, pair.first), b, pair.second)
 }

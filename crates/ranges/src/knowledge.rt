@@ -63,3 +63,34 @@ pub fn lies_within(k: Ranges, claim: Ranges) -> bool
     }
     true
 }
+
+// The same on arrays that are lent, for straight code: the record is passed by value along edges. Each array is taken as a slice,
+// which tells a proof its length.
+pub fn range_at<'a>(lows: &'a [u32; 8], highs: &'a [u32; 8], r: u8) -> Range
+    ensures { λ x. ⌜ x ≡ rangeOf (record { lows = now (lows .entry); highs = now (highs .entry) }) r ⌝ }
+{
+    let least = &lows[..];
+    let most = &highs[..];
+    let i = r as usize;
+    if i < 8 {
+        Range {
+            low: least[i],
+            high: most[i],
+        }
+    } else {
+        Range { low: 0, high: 0 }
+    }
+}
+
+// The range of a register is replaced; an operand above 7 names none and nothing changes.
+pub fn put_at(lows: &mut [u32; 8], highs: &mut [u32; 8], r: u8, x: Range)
+    ensures { λ y. ⌜ record { lows = now (lows .exit); highs = now (highs .exit) } ≡ put (record { lows = now (lows .entry); highs = now (highs .entry) }) r x ⌝ }
+{
+    let least = &mut lows[..];
+    let most = &mut highs[..];
+    let i = r as usize;
+    if i < 8 {
+        least[i] = x.low;
+        most[i] = x.high;
+    }
+}

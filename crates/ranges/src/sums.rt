@@ -7,10 +7,11 @@ ghost use lib.IntN.{pos, _+ℤ_, subℕ};
 ghost use Rattle.model.specs.Words.{modulus};
 ghost use Rattle.model.specs.Ranges.{ruleW};
 
-// 2^32 and 2^33.
+// 2^32.
 const WORDS: u64 = 0x1_0000_0000;
 
-const TWICE: u64 = 0x2_0000_0000;
+// By which a signed sum is raised: 2^32 too.
+const RAISE: i64 = 0x1_0000_0000;
 
 fn wide(x: u32) -> u64
     ensures { λ r. ⌜ (r ≡ x) × (r < modulus) ⌝ }
@@ -23,41 +24,15 @@ fn rule_w(low: u64, high: u64) -> Range
     requires { ⌜ (low < 0x3_0000_0000) × (high < 0x3_0000_0000) ⌝ }
     ensures { λ r. ⌜ r ≡ ruleW (subℕ low modulus) (subℕ high modulus) ⌝ }
 {
-    if low < WORDS {
-        if high < WORDS {
-            return Range {
-                low: low as u32,
-                high: high as u32,
-            };
-        }
+    if low / WORDS != high / WORDS {
         return Range {
             low: 0,
             high: 0xFFFF_FFFF,
-        };
-    }
-    if low < TWICE {
-        if WORDS <= high {
-            if high < TWICE {
-                return Range {
-                    low: (low - WORDS) as u32,
-                    high: (high - WORDS) as u32,
-                };
-            }
-        }
-        return Range {
-            low: 0,
-            high: 0xFFFF_FFFF,
-        };
-    }
-    if TWICE <= high {
-        return Range {
-            low: (low - TWICE) as u32,
-            high: (high - TWICE) as u32,
         };
     }
     Range {
-        low: 0,
-        high: 0xFFFF_FFFF,
+        low: (low % WORDS) as u32,
+        high: (high % WORDS) as u32,
     }
 }
 
@@ -85,11 +60,7 @@ pub fn sub(x: Range, y: Range) -> Range
 pub fn displaced_end(end: u32, imm: i32) -> u64
     ensures { λ r. ⌜ (subℕ r modulus ≡ pos end +ℤ imm) × (r < 0x3_0000_0000) ⌝ }
 {
-    if 0 <= imm {
-        WORDS + wide(end) + wide(imm as u32)
-    } else {
-        WORDS + wide(end) - wide((-1 - imm) as u32) - 1
-    }
+    ((end as i64) + (imm as i64) + RAISE) as u64
 }
 
 // addi: "rule W on both ends plus imm"

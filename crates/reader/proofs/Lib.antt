@@ -1,7 +1,12 @@
 pub mod Layouts
 pub mod Targets
+pub mod Padding
 pub mod Searches
+pub mod Halving
+pub mod Cursor
 pub mod Rows
 pub mod Lengths
 pub mod Judging
 pub mod Passes
+pub mod Encodings
+pub mod Masks

@@ -7,24 +7,19 @@ use mathlib.Core.List.{List, [], _∷_, _++_}
 use mathlib.Core.Option.{Option, none, some}
 use borrow.Author.Tests.{eq-eqb, ne-eqb}
 use lib.ListN.{length}
-use Rattle.model.specs.declared.Instruction.{Instruction}
 use Rattle.model.specs.declared.Layout.{Layout}
 use Rattle.model.specs.declared.Refusal.{Refusal}
 use Rattle.model.specs.Answers.{faultOf}
 use Rattle.model.specs.Obligations.{Fault, Obligation, fault, owes, firstFault, eachFrom, each}
-use Rattle.model.specs.Quantifiers.{anyOf}
 use Rattle.model.specs.Words.{readBytes}
-use Rattle.model.specs.File.{fieldEnd, targetsAt, instructionCount, targetCount, layoutIn, isLayout, instructionIn, isInstruction, readable}
+use Rattle.model.specs.File.{fieldEnd, targetsAt, instructionCount, targetCount, layoutIn, isLayout, readable}
 use Rattle.model.specs.Rules.{FileKept}
 use Rattle.model.proofs.Accepted.{readable-iff}
 use Rattle.model.proofs.Faults.{head-met, head-unmet, one-met, append-faultless, append-faulty, index-faultless, index-faulty, indexes-done, indexes-start}
 use Rattle.reader.specs.declared.check.Check.{Check}
 use Rattle.reader.specs.declared.check.Check.the-variants.{Met, Unmet}
-use Rattle.reader.specs.declared.decode.Decoded.{Decoded}
-use Rattle.reader.specs.declared.decode.Decoded.the-variants.{Is, Not}
 use Rattle.reader.specs.declared.read.Parsed.the-variants.{Module, Refused}
 use Rattle.reader.specs.Checks.{faultIn}
-use Rattle.reader.specs.Decoding.{instructionOf}
 use Rattle.reader.specs.Readings.{tableRules, restRules, reading, readingOf}
 
 -- the first fault where every index from i on, below n, owes a test by a rule; and where every index below n does
@@ -47,19 +42,6 @@ module _ (rule : ℕ) (test : ℕ → Bool) (n : ℕ) where
 
     pub indexes-pass : n ≤ i → none ≡ faultBelow rule test n
     indexes-pass past = sym (indexes-done _ i n past) ∙ so-far
-
--- whether the decoder found an instruction
-module _ (file : List ℕ) (i : ℕ) (found : Decoded) (is-found : instructionOf found ≡ instructionIn file i) where
-  tested : anyOf (instructionOf found) (λ x. true) ≡ isInstruction file i
-  tested = rw is-found
-
-  pub decoded : (x : Instruction) → found ≡ Is x → isInstruction file i ≡ true
-  unfolding instructionOf
-  decoded x is = sym (rw is at tested)
-
-  pub undecoded : found ≡ Not → isInstruction file i ≡ false
-  unfolding instructionOf
-  undecoded is = sym (rw is at tested)
 
 -- a part that is checked, and what is judged behind it
 module _ (part later : List Obligation) (r : Check) (is-part : faultIn r ≡ firstFault part) where

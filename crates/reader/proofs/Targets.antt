@@ -13,6 +13,7 @@ use Rattle.model.specs.Quantifiers.{allBelow}
 use Rattle.model.specs.Ranges.{low, high}
 use Rattle.model.specs.Words.{top, readBytes}
 use Rattle.model.specs.File.{instructionCount, tabulate, targetStart, targetIndex, targetKind, claimIn, targetIn, indirectClaim, isIndirectClaim, isInOrder, isGoodTarget}
+use Rattle.reader.specs.Lookups.{claimAt}
 use Rattle.model.proofs.Reflection.{eq-reflects, implies-reflects}
 
 -- a table of eight, entry by entry
@@ -21,12 +22,17 @@ pub eight-entries : (f : ℕ → ℕ) {a b c d e g h i : ℕ} → a ≡ f 0 → 
 unfolding tabulate
 eight-entries f at0 at1 at2 at3 at4 at5 at6 at7 = rw (at0, at1, at2, at3, at4, at5, at6, at7)
 
-pub claim-is : (file : List ℕ) (j start : ℕ) (lows highs : List ℕ) → start ≡ targetStart file j
-    → lows ≡ tabulate 0 8 (λ r. readBytes 4 file (start + 4 + 8 * r))
-    → highs ≡ tabulate 0 8 (λ r. readBytes 4 file (start + 8 + 8 * r))
-    → record { lows = lows; highs = highs } ≡ claimIn file j
-unfolding claimIn
-claim-is file j start lows highs at lowest highest = rw (lowest, highest, at)
+pub claim-is : (bytes : List ℕ) (start : ℕ) (lows highs : List ℕ)
+    → lows ≡ tabulate 0 8 (λ r. readBytes 4 bytes (start + 4 + 8 * r))
+    → highs ≡ tabulate 0 8 (λ r. readBytes 4 bytes (start + 8 + 8 * r))
+    → record { lows = lows; highs = highs } ≡ claimAt bytes start
+unfolding claimAt
+claim-is bytes start lows highs lowest highest = rw (lowest, highest)
+
+-- the claim of a target is read where the target begins
+pub claim-there : (file : List ℕ) (j start : ℕ) → start ≡ targetStart file j → claimAt file start ≡ claimIn file j
+unfolding claimAt claimIn
+claim-there file j start at = rw at
 
 pub target-is : (file : List ℕ) (j index : ℕ) (indirect : Bool) (claim : Ranges) → index ≡ targetIndex file j
     → indirect ≡ targetIn file j .indirect → claim ≡ claimIn file j

@@ -3,10 +3,13 @@ use model::Instruction;
 use model::Test;
 use model::Width;
 ghost use mathlib.Core.Path.{_≡_};
-ghost use mathlib.Core.Option.{some, Option·getD};
-ghost use Rattle.model.specs.declared.Instruction.the-variants.{Halt};
-ghost use Rattle.model.specs.File.{isRegister, isAmount, hasNothing, hasA, hasAB, hasAAmount, hasImm, hasAImm, hasABWImm, widthOf, testOf, provided, decode, instructionIn};
-ghost use Rattle.reader.specs.Decoding.{instructionOf, widthIn, testIn, loadOf, storeOf, branchOf};
+ghost use mathlib.Core.Bool.{true};
+ghost use lib.Dec.{eqb};
+ghost use Rattle.model.specs.declared.Layout.{Layout};
+ghost use Rattle.model.specs.Instructions.{shape, traits};
+ghost use Rattle.model.specs.Quantifiers.{anyOf};
+ghost use Rattle.model.specs.File.{isRegister, isAmount, hasNothing, hasA, hasAB, hasAAmount, hasImm, hasAImm, hasABWImm, widthOf, testOf, decode, instructionIn};
+ghost use Rattle.reader.specs.Decoding.{instructionOf, hasABWidth, hasABTest, isEncoding, widthOr, testOr, assembled, assembledIn};
 
 // The instruction, or that the bytes are none.
 pub enum Decoded {
@@ -15,17 +18,10 @@ pub enum Decoded {
 }
 
 // Where the first instruction stands.
-const CODE: usize = 18;
+pub(crate) const CODE: usize = 18;
 
-pub enum FoundWidth {
-    Is { width: Width },
-    Not,
-}
-
-pub enum FoundTest {
-    Is { test: Test },
-    Not,
-}
+// The opcode of check.
+const CHECK: u8 = 14;
 
 fn is_register(r: u8) -> bool
     ensures { λ x. ⌜ x ≡ isRegister r ⌝ }
@@ -45,27 +41,21 @@ fn is_amount(w: u8) -> bool
     }
 }
 
-fn width_of(w: u8) -> FoundWidth
-    ensures { λ x. ⌜ widthIn x ≡ widthOf w ⌝ }
+fn is_width(w: u8) -> bool
+    ensures { λ x. ⌜ x ≡ anyOf (widthOf w) (λ _. true) ⌝ }
 {
     match w {
-        1 => FoundWidth::Is { width: Width::One },
-        2 => FoundWidth::Is { width: Width::Two },
-        4 => FoundWidth::Is { width: Width::Four },
-        _ => FoundWidth::Not,
+        1 | 2 | 4 => true,
+        _ => false,
     }
 }
 
-fn test_of(w: u8) -> FoundTest
-    ensures { λ x. ⌜ testIn x ≡ testOf w ⌝ }
+fn is_test(w: u8) -> bool
+    ensures { λ x. ⌜ x ≡ anyOf (testOf w) (λ _. true) ⌝ }
 {
     match w {
-        0 => FoundTest::Is { test: Test::Equal },
-        1 => FoundTest::Is { test: Test::Below },
-        2 => FoundTest::Is {
-            test: Test::SignedBelow,
-        },
-        _ => FoundTest::Not,
+        0..=2 => true,
+        _ => false,
     }
 }
 
@@ -101,6 +91,24 @@ fn has_a_b_w_imm(a: u8, b: u8) -> bool
         return false;
     }
     is_register(b)
+}
+
+fn has_a_b_width_imm(a: u8, b: u8, w: u8) -> bool
+    ensures { λ x. ⌜ x ≡ hasABWidth a b w ⌝ }
+{
+    if !has_a_b_w_imm(a, b) {
+        return false;
+    }
+    is_width(w)
+}
+
+fn has_a_b_test_imm(a: u8, b: u8, w: u8) -> bool
+    ensures { λ x. ⌜ x ≡ hasABTest a b w ⌝ }
+{
+    if !has_a_b_w_imm(a, b) {
+        return false;
+    }
+    is_test(w)
 }
 
 fn has_nothing(a: u8, b: u8, w: u8, imm: u32) -> bool
@@ -148,60 +156,85 @@ fn has_a_amount(a: u8, b: u8, w: u8, imm: u32) -> bool
     imm == 0
 }
 
-// An instruction whose operands are as they should be, or none.
-fn keep(ok: bool, instruction: Instruction) -> Decoded
-    ensures { λ x. ⌜ instructionOf x ≡ provided ok (some instruction) ⌝ }
+// Whether an opcode and its operand bytes are an instruction.
+fn is_encoding(op: u8, a: u8, b: u8, w: u8, imm: u32) -> bool
+    ensures { λ x. ⌜ x ≡ isEncoding op a b w imm ⌝ }
 {
-    if ok {
-        Decoded::Is { instruction }
-    } else {
-        Decoded::Not
+    match op {
+        0 => has_nothing(a, b, w, imm),
+        1 | 4 | 6 => has_a_imm(a, b, w),
+        2 | 3 | 5 => has_a_b(a, b, w, imm),
+        7 | 14 | 15 => has_a(a, b, w, imm),
+        8 | 9 => has_a_amount(a, b, w, imm),
+        10 | 11 => has_a_b_width_imm(a, b, w),
+        12 => has_imm(a, b, w),
+        13 => has_a_b_test_imm(a, b, w),
+        _ => false,
     }
 }
 
-fn load(a: u8, b: u8, w: u8, imm: u32) -> Decoded
-    ensures { λ x. ⌜ instructionOf x ≡ loadOf a b w imm ⌝ }
+fn width_of(w: u8) -> Width
+    ensures { λ x. ⌜ x ≡ widthOr w ⌝ }
 {
-    let found = width_of(w);
-    match found {
-        FoundWidth::Is { width } => keep(
-            has_a_b_w_imm(a, b),
-            Instruction::Load {
-                a,
-                b,
-                width,
-                imm: words::arithmetic::to_signed(imm),
-            },
-        ),
-        FoundWidth::Not => Decoded::Not,
+    match w {
+        1 => Width::One,
+        2 => Width::Two,
+        _ => Width::Four,
     }
 }
 
-fn store(a: u8, b: u8, w: u8, imm: u32) -> Decoded
-    ensures { λ x. ⌜ instructionOf x ≡ storeOf a b w imm ⌝ }
+fn test_of(w: u8) -> Test
+    ensures { λ x. ⌜ x ≡ testOr w ⌝ }
 {
-    let found = width_of(w);
-    match found {
-        FoundWidth::Is { width } => keep(
-            has_a_b_w_imm(a, b),
-            Instruction::Store {
-                a,
-                b,
-                width,
-                imm: words::arithmetic::to_signed(imm),
-            },
-        ),
-        FoundWidth::Not => Decoded::Not,
+    match w {
+        0 => Test::Equal,
+        1 => Test::Below,
+        _ => Test::SignedBelow,
     }
 }
 
-fn branch(a: u8, b: u8, w: u8, to: u32) -> Decoded
-    ensures { λ x. ⌜ instructionOf x ≡ branchOf a b w to ⌝ }
+// The instruction that an opcode and its operand bytes say, once they are known to be one. Of other bytes only what would name
+// a register, an amount, a width or a test is read.
+pub fn assemble(op: u8, first: u8, second: u8, w: u8, imm: u32) -> Instruction
+    ensures { λ x. ⌜ x ≡ assembled op first second w imm ⌝ }
 {
-    let found = test_of(w);
-    match found {
-        FoundTest::Is { test } => keep(has_a_b_w_imm(a, b), Instruction::Branch { a, b, test, to }),
-        FoundTest::Not => Decoded::Not,
+    let a = first % 8;
+    let b = second % 8;
+    match op {
+        0 => Instruction::Halt,
+        1 => Instruction::Set { a, imm },
+        2 => Instruction::Copy { a, b },
+        3 => Instruction::Add { a, b },
+        4 => Instruction::Addi {
+            a,
+            imm: words::arithmetic::to_signed(imm),
+        },
+        5 => Instruction::Sub { a, b },
+        6 => Instruction::Andi { a, imm },
+        7 => Instruction::Guard { a },
+        8 => Instruction::Shr { a, amount: w % 32 },
+        9 => Instruction::Sar { a, amount: w % 32 },
+        10 => Instruction::Load {
+            a,
+            b,
+            width: width_of(w),
+            imm: words::arithmetic::to_signed(imm),
+        },
+        11 => Instruction::Store {
+            a,
+            b,
+            width: width_of(w),
+            imm: words::arithmetic::to_signed(imm),
+        },
+        12 => Instruction::Jump { to: imm as usize },
+        13 => Instruction::Branch {
+            a,
+            b,
+            test: test_of(w),
+            to: imm as usize,
+        },
+        14 => Instruction::Check { a },
+        _ => Instruction::Jumpr { a },
     }
 }
 
@@ -209,36 +242,12 @@ fn branch(a: u8, b: u8, w: u8, to: u32) -> Decoded
 pub fn decode(op: u8, a: u8, b: u8, w: u8, imm: u32) -> Decoded
     ensures { λ x. ⌜ instructionOf x ≡ decode op a b w imm ⌝ }
 {
-    match op {
-        0 => keep(has_nothing(a, b, w, imm), Instruction::Halt),
-        1 => keep(has_a_imm(a, b, w), Instruction::Set { a, imm }),
-        2 => keep(has_a_b(a, b, w, imm), Instruction::Copy { a, b }),
-        3 => keep(has_a_b(a, b, w, imm), Instruction::Add { a, b }),
-        4 => keep(
-            has_a_imm(a, b, w),
-            Instruction::Addi {
-                a,
-                imm: words::arithmetic::to_signed(imm),
-            },
-        ),
-        5 => keep(has_a_b(a, b, w, imm), Instruction::Sub { a, b }),
-        6 => keep(has_a_imm(a, b, w), Instruction::Andi { a, imm }),
-        7 => keep(has_a(a, b, w, imm), Instruction::Guard { a }),
-        8 => keep(
-            has_a_amount(a, b, w, imm),
-            Instruction::Shr { a, amount: w },
-        ),
-        9 => keep(
-            has_a_amount(a, b, w, imm),
-            Instruction::Sar { a, amount: w },
-        ),
-        10 => load(a, b, w, imm),
-        11 => store(a, b, w, imm),
-        12 => keep(has_imm(a, b, w), Instruction::Jump { to: imm }),
-        13 => branch(a, b, w, imm),
-        14 => keep(has_a(a, b, w, imm), Instruction::Check { a }),
-        15 => keep(has_a(a, b, w, imm), Instruction::Jumpr { a }),
-        _ => Decoded::Not,
+    if is_encoding(op, a, b, w, imm) {
+        Decoded::Is {
+            instruction: assemble(op, a, b, w, imm),
+        }
+    } else {
+        Decoded::Not
     }
 }
 
@@ -255,13 +264,16 @@ pub fn instruction_at(file: &[u8], i: u32) -> Decoded
     decode(op, a, b, w, imm)
 }
 
-// The same as an instruction to execute: bytes that are none are a halt, which no file that keeps rule 6 has.
-pub fn fetch(file: &[u8], i: u32) -> Instruction
-    ensures { λ x. ⌜ x ≡ Option·getD (instructionIn (now (file .entry)) i) Halt ⌝ }
+// Whether the instruction at an index is a check of a register, by its first bytes alone.
+pub fn is_check_of(file: &[u8], i: u32, a: u8) -> bool
+    ensures { λ x. ⌜ ((l : Layout) → x ≡ anyOf (traits (shape l (assembledIn (now (file .entry)) i)) .looksAt) (eqb a)) ⌝ }
 {
-    let found = instruction_at(file, i);
-    match found {
-        Decoded::Is { instruction } => instruction,
-        Decoded::Not => Instruction::Halt,
+    let at = CODE + 8 * (i as usize);
+    if file.len() < at + 8 {
+        return false;
     }
+    if file[at] != CHECK {
+        return false;
+    }
+    a == file[at + 1] % 8
 }

@@ -2,6 +2,7 @@
 // takes the file's bytes and looks where the field, instruction or target stands. All of them take any bytes.
 pub mod check;
 pub mod decode;
+pub mod encoding;
 pub mod field;
 pub mod layout;
 pub mod lookup;

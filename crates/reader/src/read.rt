@@ -1,8 +1,7 @@
 // The whole module file: refusals 1 to 7, in their order, over one pass.
 use crate::check;
 use crate::check::Check;
-use crate::decode;
-use crate::decode::Decoded;
+use crate::encoding;
 use crate::field;
 use crate::layout;
 use crate::target;
@@ -45,12 +44,8 @@ fn check_instructions(file: &[u8], n: u32) -> Check
 {
     let mut i = 0;
     while i < n {
-        let found = decode::instruction_at(file, i);
-        match found {
-            Decoded::Is { instruction: _ } => {}
-            Decoded::Not => {
-                return check::unmet(Rule::BadInstruction, i);
-            }
+        if !encoding::is_instruction(file, i) {
+            return check::unmet(Rule::BadInstruction, i);
         }
         i += 1;
     }

@@ -2,18 +2,22 @@
 use model::Ranges;
 use model::Target;
 ghost use mathlib.Core.Path.{_≡_};
-ghost use Prim.Native.Nat.{_+_, _*_, _<_};
+ghost use Prim.Native.Nat.{_+_, _*_, _<_, _≤_};
 ghost use lib.Dec.{leb};
-ghost use lib.ListN.{getD};
+ghost use lib.ListN.{length, getD};
 ghost use Rattle.model.specs.Quantifiers.{allBelow};
 ghost use Rattle.model.specs.Ranges.{low, high};
 ghost use Rattle.model.specs.Words.{readBytes};
-ghost use Rattle.model.specs.File.{targetsAt, instructionCount, targetCount, targetStart, targetIndex, targetKind, claimIn, targetIn, isIndirectClaim, isInOrder, isGoodTarget};
+ghost use Rattle.model.specs.File.{targetsAt, instructionCount, targetCount, targetStart, targetIndex, targetKind, tabulate, claimIn, targetIn, isIndirectClaim, isInOrder, isGoodTarget};
+ghost use Rattle.reader.specs.Lookups.{claimAt};
 
 // Where the length of the instructions' field stands, and where its value begins.
 const CODE_LENGTH: usize = 16;
 
 const CODE: u32 = 18;
+
+// The bytes of a target.
+const TARGET: usize = 68;
 
 // The kind of an indirect target.
 const INDIRECT: u8 = 1;
@@ -73,48 +77,82 @@ fn zero_byte(file: &[u8], j: u32) -> u8
     words::bytes::byte_at(file, start + 3)
 }
 
-// The lowest and the highest value that a target claims for a register.
-fn claimed_low(file: &[u8], start: usize, r: usize) -> u32
-    requires { ⌜ (start < 0x80_0000_0000) × (r < 8) ⌝ }
-    ensures { λ x. ⌜ x ≡ readBytes 4 (now (file .entry)) (start + 4 + 8 * r) ⌝ }
+// The word at an offset.
+fn word_at(bytes: &[u8], at: usize) -> u32
+    requires { ⌜ at + 4 ≤ length (now bytes) ⌝ }
+    ensures { λ x. ⌜ x ≡ readBytes 4 (now (bytes .entry)) at ⌝ }
 {
-    words::bytes::read_u32(file, start + 4 + 8 * r)
+    words::bytes::little_endian(bytes[at], bytes[at + 1], bytes[at + 2], bytes[at + 3])
 }
 
-fn claimed_high(file: &[u8], start: usize, r: usize) -> u32
-    requires { ⌜ (start < 0x80_0000_0000) × (r < 8) ⌝ }
-    ensures { λ x. ⌜ x ≡ readBytes 4 (now (file .entry)) (start + 8 + 8 * r) ⌝ }
+// The lowest and the highest value that a claim has for a register; its target begins at `start`.
+fn low_at(bytes: &[u8], start: usize, r: usize) -> u32
+    requires { ⌜ (start + 68 ≤ length (now bytes)) × (r < 8) ⌝ }
+    ensures { λ x. ⌜ x ≡ readBytes 4 (now (bytes .entry)) (start + 4 + 8 * r) ⌝ }
 {
-    words::bytes::read_u32(file, start + 8 + 8 * r)
+    word_at(bytes, start + 4 + 8 * r)
 }
 
-// The claim of the target of a number.
+fn high_at(bytes: &[u8], start: usize, r: usize) -> u32
+    requires { ⌜ (start + 68 ≤ length (now bytes)) × (r < 8) ⌝ }
+    ensures { λ x. ⌜ x ≡ readBytes 4 (now (bytes .entry)) (start + 8 + 8 * r) ⌝ }
+{
+    word_at(bytes, start + 8 + 8 * r)
+}
+
+// The claim of the target that begins at an offset.
+fn claim_at(bytes: &[u8], start: usize) -> Ranges
+    requires { ⌜ start + 68 ≤ length (now bytes) ⌝ }
+    ensures { λ r. ⌜ r ≡ claimAt (now (bytes .entry)) start ⌝ }
+{
+    Ranges {
+        lows: [
+            low_at(bytes, start, 0),
+            low_at(bytes, start, 1),
+            low_at(bytes, start, 2),
+            low_at(bytes, start, 3),
+            low_at(bytes, start, 4),
+            low_at(bytes, start, 5),
+            low_at(bytes, start, 6),
+            low_at(bytes, start, 7),
+        ],
+        highs: [
+            high_at(bytes, start, 0),
+            high_at(bytes, start, 1),
+            high_at(bytes, start, 2),
+            high_at(bytes, start, 3),
+            high_at(bytes, start, 4),
+            high_at(bytes, start, 5),
+            high_at(bytes, start, 6),
+            high_at(bytes, start, 7),
+        ],
+    }
+}
+
+// The bytes of a target that the file does not have whole, filled up with zeros.
+fn padded(file: &[u8], start: usize) -> [u8; 68]
+    requires { ⌜ start < 0x80_0000_0000 ⌝ }
+    ensures { λ r. ⌜ r ≡ tabulate start 68 (λ i. getD (now (file .entry)) i 0) ⌝ }
+{
+    let mut bytes: [u8; 68] = [0; 68];
+    let mut i: usize = 0;
+    while i < 68 {
+        bytes[i] = words::bytes::byte_at(file, start + i);
+        i += 1;
+    }
+    bytes
+}
+
+// The claim of the target of a number; bytes past the end are zero.
 pub fn claim_in(file: &[u8], j: u32) -> Ranges
     ensures { λ r. ⌜ r ≡ claimIn (now (file .entry)) j ⌝ }
 {
-    let s = target_start(file, j);
-    Ranges {
-        lows: [
-            claimed_low(file, s, 0),
-            claimed_low(file, s, 1),
-            claimed_low(file, s, 2),
-            claimed_low(file, s, 3),
-            claimed_low(file, s, 4),
-            claimed_low(file, s, 5),
-            claimed_low(file, s, 6),
-            claimed_low(file, s, 7),
-        ],
-        highs: [
-            claimed_high(file, s, 0),
-            claimed_high(file, s, 1),
-            claimed_high(file, s, 2),
-            claimed_high(file, s, 3),
-            claimed_high(file, s, 4),
-            claimed_high(file, s, 5),
-            claimed_high(file, s, 6),
-            claimed_high(file, s, 7),
-        ],
+    let start = target_start(file, j);
+    if file.len() < start + TARGET {
+        let whole = padded(file, start);
+        return claim_at(&whole[..], 0);
     }
+    claim_at(file, start)
 }
 
 // The target of a number, straight from the file; bytes past the end are zero.

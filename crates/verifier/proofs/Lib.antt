@@ -1,6 +1,6 @@
-pub mod Matches
 pub mod Zones
-pub mod Found
-pub mod Order
-pub mod Turns
+pub mod Landing
+pub mod Turning
+pub mod Behind
+pub mod Passing
 pub mod Verdicts

@@ -59,15 +59,14 @@ at-most n x m =
     (λ f. let above : modulus ≤ n = ltb-false n modulus f in
     same-order (n - modulus + x) m (n + x) (modulus + m) (λ h. omega arith) (λ h. omega arith))
 
--- what the code computes before it compares: the pointer's range x, the raised ends, and how far the last byte lies behind the first
-pub record Ends (k : Ranges) (b : ℕ) (w : Width) (imm : ℤ) (x : Range) (lowest highest last : ℕ) : Type 0 where
-  pub is-range : x ≡ rangeOf k b
+-- what the code computes before it compares, from the pointer's range x: the raised ends, and how far the last byte lies behind the first
+pub record Ends (w : Width) (imm : ℤ) (x : Range) (lowest highest last : ℕ) : Type 0 where
   pub is-lowest : subℕ lowest modulus ≡ pos (x .low) +ℤ toZ w32 (ofZ w32 imm)
   pub is-highest : subℕ highest modulus ≡ pos (x .high) +ℤ toZ w32 (ofZ w32 imm)
   pub is-last : last ≡ bytesOf w - 1
 
 -- an access moves four bytes or fewer
-pub last-small : {k : Ranges} {b : ℕ} {w : Width} {imm : ℤ} {x : Range} {lowest highest last : ℕ} → Ends k b w imm x lowest highest last → last < 4
+pub last-small : {w : Width} {imm : ℤ} {x : Range} {lowest highest last : ℕ} → Ends w imm x lowest highest last → last < 4
 last-small {w = w} ends = rw (ends .is-last) (by-width w)
   where
     by-width : (v : Width) → bytesOf v - 1 < 4
@@ -75,16 +74,16 @@ last-small {w = w} ends = rw (ends .is-last) (by-width w)
     by-width Two = omega arith
     by-width Four = omega arith
 
-module _ {l : Layout} (kept : LayoutKept l) {k : Ranges} {b : ℕ} {w : Width} {imm : ℤ} (fit : SFits w32 imm)
-    {x : Range} {lowest highest last : ℕ} (ends : Ends k b w imm x lowest highest last) where
+module _ {l : Layout} (kept : LayoutKept l) {w : Width} {imm : ℤ} (fit : SFits w32 imm)
+    {x : Range} {lowest highest last : ℕ} (ends : Ends w imm x lowest highest last) (k : Ranges) (b : ℕ) (is-range : x ≡ rangeOf k b) where
   two-tests : isContained l k (record { pointer = b; width = w; displacement = imm })
       ≡ (leb (modulus + (l .base - l .guard)) lowest && leb (highest + last) (modulus + (l .base + l .size - 1 + l .guard)))
   unfolding isContained
   two-tests =
       let lowest-is : pos (low k b) +ℤ imm ≡ subℕ lowest modulus =
-      ap (λ (y : Range). pos (y .low) +ℤ imm) (sym (ends .is-range)) ∙ sym (kept-displacement _ _ _ fit (ends .is-lowest)) in
+      ap (λ (y : Range). pos (y .low) +ℤ imm) (sym is-range) ∙ sym (kept-displacement _ _ _ fit (ends .is-lowest)) in
       let highest-is : pos (high k b) +ℤ imm ≡ subℕ highest modulus =
-      ap (λ (y : Range). pos (y .high) +ℤ imm) (sym (ends .is-range)) ∙ sym (kept-displacement _ _ _ fit (ends .is-highest)) in
+      ap (λ (y : Range). pos (y .high) +ℤ imm) (sym is-range) ∙ sym (kept-displacement _ _ _ fit (ends .is-highest)) in
       rw (lowest-is, highest-is, ← ends .is-last)
       (ap₂ _&&_ (at-least (l .base - l .guard) lowest) (at-most highest last (l .base + l .size - 1 + l .guard)))
 

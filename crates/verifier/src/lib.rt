@@ -1,5 +1,4 @@
 // The verifier: one pass over the instructions, from what is known at each index to what is known at the next, and rules 8 to 13.
-mod edges;
 mod rules;
+mod turn;
 pub mod verify;
-mod view;

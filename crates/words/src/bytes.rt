@@ -11,7 +11,7 @@ fn wide(x: u8) -> u32
 }
 
 // The number of four bytes, the lowest first.
-fn little_endian(a: u8, b: u8, c: u8, d: u8) -> u32
+pub fn little_endian(a: u8, b: u8, c: u8, d: u8) -> u32
     ensures { λ r. ⌜ r ≡ a + 256 * b + 65536 * c + 16777216 * d ⌝ }
 {
     wide(a) + 256 * wide(b) + 65536 * wide(c) + 16777216 * wide(d)

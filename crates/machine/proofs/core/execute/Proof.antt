@@ -4,17 +4,32 @@ use denote.Ref.{now}
 use mathlib.Core.Path.{refl}
 use native.Mathlib.Omega.{arith}
 use Rattle.model.specs.Instructions.{shape}
-use Rattle.machine.proofs.Arms.{layout-ready, kept-ready, room-ready, displaced-by, assigned, halted, loaded, stored, jumped, branched, not-branched, checked, denied, jumped-via}
+use Rattle.machine.proofs.Arms.{layout-ready, kept-ready, room-ready, targets-ready, displaced-by, assigned, halted, loaded, stored, jumped, branched, not-branched, checked, denied, jumped-via}
+use Rattle.machine.proofs.Going.{indirect-tested}
 use Rattle.machine.proofs.core.execute.Statement.{statement}
 use Rattle.machine.proofs.core.execute.Tie as tie
 
 guard-requires : tie.Need-guard-requires
 guard-requires c κs = kept-ready (c .before .before .before .before .before .before .before .before .pre)
 
+load-requires : tie.Need-load-requires
+load-requires c κs =
+    let arm = c .before .before .before .before .before .before in
+    (omega arith, room-ready (arm .before .before .before .before .pre))
+
 store-requires : tie.Need-store-requires
 store-requires c κs =
     let arm = c .before .before .before .before .before .before .before in
     (omega arith, room-ready (arm .before .before .before .before .pre))
+
+jump-requires : tie.Need-jump-requires
+jump-requires c κs = targets-ready (c .before .before .before .before .before .pre)
+
+jump-requires-2 : tie.Need-jump-requires-2
+jump-requires-2 c κs = targets-ready (c .before .before .before .before .before .before .before .before .before .before .before .pre)
+
+jump-via-requires : tie.Need-jump-via-requires
+jump-via-requires c κs = targets-ready (c .before .before .before .before .before .before .before .pre)
 
 returns : tie.Need-returns
 returns c = halted (c .before .before .before .before .pre) _ _ _ (c .enum-told .given .1) refl
@@ -155,15 +170,19 @@ returns-16 : tie.Need-returns-16
 returns-16 c =
     let read = c .before .before .before in
     let arm = read .before .before .before in
-    checked (arm .before .before .before .before .pre) _ _ _ (c .onward2 .ensures) _ (arm .instruction14 .given .1)
-    (rw (← read .get16 .ensures, ← c .before .before .is-indirect .ensures) (c .before .if2 .taken))
+    let ready = arm .before .before .before .before .pre in
+    let tested = indirect-tested _ (ready .kept) (ready .targets-is) _ (c .before .before .is-indirect .ensures) in
+    checked ready _ _ _ (c .onward2 .ensures) _ (arm .instruction14 .given .1)
+    (rw (← read .get16 .ensures, ← tested) (c .before .if2 .taken))
 
 returns-17 : tie.Need-returns-17
 returns-17 c =
     let read = c .before .before in
     let arm = read .before .before .before in
-    denied (arm .before .before .before .before .pre) _ _ _ _ (arm .instruction14 .given .1)
-    (rw (← read .get16 .ensures, ← c .before .is-indirect .ensures) (c .if2 .left)) refl
+    let ready = arm .before .before .before .before .pre in
+    let tested = indirect-tested _ (ready .kept) (ready .targets-is) _ (c .before .is-indirect .ensures) in
+    denied ready _ _ _ _ (arm .instruction14 .given .1)
+    (rw (← read .get16 .ensures, ← tested) (c .if2 .left)) refl
 
 returns-18 : tie.Need-returns-18
 returns-18 c =
@@ -185,14 +204,15 @@ execute-spec =
     (λ c. search needs) (λ c κs. tt) guard-requires (λ c κs. omega arith)
     (λ c. search needs) (λ c κs. tt) (λ c κs. tt) (λ c κs. omega arith)
     (λ c. search needs) (λ c κs. tt) (λ c κs. tt) (λ c κs. omega arith)
-    (λ c. search needs) (λ c κs. tt) (λ c κs. tt) (λ c κs. omega arith)
+    (λ c. search needs) (λ c κs. tt) (λ c κs. tt) load-requires
     (λ c. search needs) (λ c κs. tt) (λ c κs. tt) (λ c κs. tt)
-    store-requires (λ c. search needs) (λ c κs. tt) (λ c. search needs)
-    (λ c κs. tt) (λ c κs. tt) (λ c κs. tt) (λ c κs. tt)
-    (λ c κs. omega arith) (λ c. search needs) (λ c κs. tt) (λ c κs. tt)
-    (λ c κs. omega arith) (λ c. search needs) (λ c κs. tt) (λ c κs. tt)
-    returns returns-2 returns-3 returns-4
-    returns-5 returns-6 returns-7 returns-8
-    returns-9 returns-10 (λ c. search needs) returns-11
-    (λ c. search needs) returns-12 returns-13 returns-14
-    returns-15 returns-16 returns-17 returns-18)
+    store-requires (λ c. search needs) jump-requires (λ c. search needs)
+    (λ c κs. tt) (λ c κs. tt) (λ c κs. tt) jump-requires-2
+    (λ c κs. omega arith) (λ c. search needs) (λ c κs. tt) (λ c. omega arith)
+    (λ c κs. tt) (λ c κs. omega arith) (λ c. search needs) (λ c κs. tt)
+    (λ c. omega arith) jump-via-requires returns returns-2
+    returns-3 returns-4 returns-5 returns-6
+    returns-7 returns-8 returns-9 returns-10
+    (λ c. search needs) returns-11 (λ c. search needs) returns-12
+    returns-13 returns-14 returns-15 returns-16
+    returns-17 returns-18)

@@ -32,20 +32,25 @@ returns-3 c =
 
 run-in-requires : tie.Need-run-in-requires
 run-in-requires c κs =
-    let s = c .before .before .before .before .before .before .before .before .before in
-    let count = c .before .before .before .before .before .before .instruction-count .ensures in
-    let laid = c .before .before .before .before .before .layout-in .ensures in
-    let inside = c .before .before .before .before .if1 .left in
-    (part-ready _ (s .args .machine) _ _ (s .pre) _ count _ laid inside (omega arith), inside)
+    let listed = c .before in
+    let inside = listed .before .before .before .before in
+    let laid = inside .before in
+    let count = laid .before in
+    let s = count .before .before .before in
+    part-ready _ (s .args .machine) _ _ (s .pre) _ (count .instruction-count .ensures) _ (laid .layout-in .ensures) (inside .if1 .left)
+    (omega arith) _ (listed .table-in .ensures)
 
 returns-4 : tie.Need-returns-4
 returns-4 c =
-    let s = c .before .before .before .before .before .before .before .before .before .before .before .before in
-    let count = c .before .before .before .before .before .before .before .before .before .instruction-count .ensures in
-    let laid = c .before .before .before .before .before .before .before .before .layout-in .ensures in
-    let inside = c .before .before .before .before .before .before .before .if1 .left in
-    finished-post _ _ _ _ _ (has-room _ (s .args .machine) _ _ (s .pre) _ count _ laid inside (omega arith)) _ _ _
-    (part-size _ _ _ laid)
+    let roomy = c .before .before .before .before .before in
+    let inside = roomy .before .before .before in
+    let laid = inside .before in
+    let count = laid .before in
+    let s = count .before .before .before in
+    finished-post _ _ _ _ _
+    (has-room _ (s .args .machine) _ _ (s .pre) _ (count .instruction-count .ensures) _ (laid .layout-in .ensures) (inside .if1 .left)
+    (omega (arith, roomy .before .if2 .left, roomy .if3 .left)))
+    _ _ _ (part-size _ _ _ (laid .layout-in .ensures))
     (c .before .before .run-in .ensures)
 
 pub run-readable-spec : {M : Type 1} → statement M
@@ -62,6 +67,8 @@ run-readable-spec =
     returns-2
     (λ c κs. search needs)
     returns-3
+    (λ c. search needs)
+    (λ c κs. search needs)
     (λ c. search needs)
     (λ c. search needs)
     (λ c. search needs)

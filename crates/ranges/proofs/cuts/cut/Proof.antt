@@ -7,22 +7,12 @@ use Rattle.ranges.proofs.cuts.cut.Tie as tie
 returns : tie.Need-returns
 returns c =
     let left = c .before .before in
-    let held = left .before in
-    let args = held .before .args in
-    nothing-left (args .k) (args .r) _ _ _ (held .range-of .ensures) (left .common .ensures)
-    (sym (c .before .is-empty .ensures) ∙ c .if1 .taken)
+    nothing-left _ _ _ (left .common .ensures) (sym (c .before .is-empty .ensures) ∙ c .if1 .taken)
 
 returns-2 : tie.Need-returns-2
 returns-2 c =
-    let tested = c .before in
-    let left = tested .before .before in
-    let held = left .before in
-    let args = held .before .args in
-    c .put .ensures
-    ∙ some-left (args .k) (args .r) _ _ _ (held .range-of .ensures) (left .common .ensures)
-    (sym (tested .before .is-empty .ensures) ∙ tested .if1 .left)
+    let left = c .before .before in
+    some-left _ _ _ (left .common .ensures) (sym (c .before .is-empty .ensures) ∙ c .if1 .left)
 
 pub cut-spec : {M : Type 1} → statement M
-cut-spec =
-    tie.close
-    (tie.spec (λ c κs. tt) (λ c κs. tt) (λ c κs. tt) returns (λ c κs. tt) returns-2)
+cut-spec = tie.close (tie.spec (λ c κs. tt) (λ c κs. tt) returns returns-2)

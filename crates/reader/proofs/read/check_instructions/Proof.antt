@@ -3,11 +3,11 @@
 use Prim.Native.Nat.{_-_}
 use mathlib.Core.Path.{_≡_, _∙_}
 use native.Mathlib.Omega.{arith}
-use borrow.Author.Needs.{needs}
 use Rattle.model.specs.Answers.{ruleNumber}
 use Rattle.model.specs.File.{isInstruction}
+use Rattle.model.proofs.Tests.{test-fails, test-passes}
 use Rattle.reader.specs.Checks.{faultIn}
-use Rattle.reader.proofs.Passes.{faultFrom, faultBelow, indexes-begin, index-fails, index-passes, indexes-pass, decoded, undecoded}
+use Rattle.reader.proofs.Passes.{faultFrom, faultBelow, indexes-begin, index-fails, index-passes, indexes-pass}
 use Rattle.reader.proofs.read.check_instructions.Statement.{statement}
 use Rattle.reader.proofs.read.check_instructions.Tie as tie
 
@@ -23,18 +23,15 @@ loop-holds c = indexes-begin 6 _ _
 returns : tie.Need-returns Inv-loop μ-loop
 unfolding ruleNumber
 returns c =
-    let found = c .before .before .before in
-    let test = found .before in
+    let judged = c .before .before in
     c .unmet .ensures
-    ∙ index-fails 6 _ _ _ (test .before .loop .inv) (omega arith)
-    (undecoded _ _ _ (found .instruction-at .ensures) (c .before .enum-told2 .given .1))
+    ∙ index-fails 6 _ _ _ (judged .before .before .loop .inv) (omega arith)
+    (test-fails (judged .is-instruction .ensures) (c .before .if1 .taken))
 
 loop-again : tie.Need-loop-again Inv-loop μ-loop
 loop-again c =
-    let found = c .before .before in
-    let test = found .before in
-    index-passes 6 _ _ _ (test .before .loop .inv) (omega arith)
-    (decoded _ _ _ (found .instruction-at .ensures) _ (c .enum-told .given .1))
+    index-passes 6 _ _ _ (c .before .before .before .loop .inv) (omega arith)
+    (test-passes (c .before .is-instruction .ensures) (c .if1 .left))
 
 returns-2 : tie.Need-returns-2 Inv-loop μ-loop
 unfolding faultIn
@@ -45,5 +42,5 @@ check-instructions-spec =
     tie.close
     (tie.spec
     Inv-loop μ-loop loop-holds
-    (λ c κs. tt) (λ c. search needs) (λ c. search needs) (λ c κs. tt) returns
+    (λ c κs. tt) (λ c κs. tt) returns
     (λ c. omega arith) (λ c. omega arith) loop-again returns-2)

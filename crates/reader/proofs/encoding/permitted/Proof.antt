@@ -1,0 +1,28 @@
+-- `reader::encoding::permitted` meets its contract: each opcode named is the index of its row, and any other has the last.
+-- Assumes nothing.
+use Rattle.reader.specs.Decoding.{permittedBits}
+use Rattle.reader.proofs.Rows.{past-all, last-permitted}
+use Rattle.reader.proofs.encoding.permitted.Statement.{statement}
+use Rattle.reader.proofs.encoding.permitted.Tie as tie
+
+pub permitted-spec : {M : Type 1} → statement M
+unfolding permittedBits
+permitted-spec =
+    tie.close
+    (tie.spec
+    (λ c. rw (c .match .keys1))
+    (λ c. rw (c .match .keys2))
+    (λ c. rw (c .match .keys3))
+    (λ c. rw (c .match .keys4))
+    (λ c. rw (c .match .keys5))
+    (λ c. rw (c .match .keys6))
+    (λ c. rw (c .match .keys7))
+    (λ c. rw (c .match .keys8))
+    (λ c. rw (c .match .keys9))
+    (λ c. rw (c .match .keys10))
+    (λ c. rw (c .match .keys11))
+    (λ c. rw (c .match .keys12))
+    (λ c. rw (c .match .keys13))
+    (λ c. rw (c .match .keys14))
+    (λ c. rw (c .match .keys15))
+    (λ c. last-permitted _ (past-all 15 _ (c .match .rest))))

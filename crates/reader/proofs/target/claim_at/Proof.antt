@@ -1,0 +1,48 @@
+-- `reader::target::claim_at` meets its contract: by `eight-entries`, for the lowest and for the highest values. Assumes nothing.
+use Prim.Native.Nat.{_+_, _*_}
+use lib.Dec.{lit<}
+use Rattle.model.specs.Words.{readBytes}
+use Rattle.reader.proofs.Targets.{eight-entries, claim-is}
+use Rattle.reader.proofs.target.claim_at.Statement.{statement}
+use Rattle.reader.proofs.target.claim_at.Tie as tie
+
+returns : tie.Need-returns
+returns c =
+    let high0 = c .before .before .before .before .before .before .before in
+    let low7 = high0 .before in
+    let low0 = low7 .before .before .before .before .before .before .before in
+    let entry = low0 .before .before .args in
+    let bytes = entry .bytes .now in
+    claim-is bytes (entry .start) _ _
+    (eight-entries (λ r. readBytes 4 bytes (entry .start + 4 + 8 * r))
+    (low0 .low-at .ensures) (low7 .before .before .before .before .before .before .low-at2 .ensures)
+    (low7 .before .before .before .before .before .low-at3 .ensures) (low7 .before .before .before .before .low-at4 .ensures)
+    (low7 .before .before .before .low-at5 .ensures) (low7 .before .before .low-at6 .ensures)
+    (low7 .before .low-at7 .ensures) (low7 .low-at8 .ensures))
+    (eight-entries (λ r. readBytes 4 bytes (entry .start + 8 + 8 * r))
+    (high0 .high-at .ensures) (c .before .before .before .before .before .before .high-at2 .ensures)
+    (c .before .before .before .before .before .high-at3 .ensures) (c .before .before .before .before .high-at4 .ensures)
+    (c .before .before .before .high-at5 .ensures) (c .before .before .high-at6 .ensures)
+    (c .before .high-at7 .ensures) (c .high-at8 .ensures))
+
+pub claim-at-spec : {M : Type 1} → statement M
+claim-at-spec =
+    tie.close
+    (tie.spec
+    (λ c κs. (c .before .pre, lit< tt))
+    (λ c κs. (c .before .before .pre, lit< tt))
+    (λ c κs. (c .before .before .before .pre, lit< tt))
+    (λ c κs. (c .before .before .before .before .pre, lit< tt))
+    (λ c κs. (c .before .before .before .before .before .pre, lit< tt))
+    (λ c κs. (c .before .before .before .before .before .before .pre, lit< tt))
+    (λ c κs. (c .before .before .before .before .before .before .before .pre, lit< tt))
+    (λ c κs. (c .before .before .before .before .before .before .before .before .pre, lit< tt))
+    (λ c κs. (c .before .before .before .before .before .before .before .before .before .pre, lit< tt))
+    (λ c κs. (c .before .before .before .before .before .before .before .before .before .before .pre, lit< tt))
+    (λ c κs. (c .before .before .before .before .before .before .before .before .before .before .before .pre, lit< tt))
+    (λ c κs. (c .before .before .before .before .before .before .before .before .before .before .before .before .pre, lit< tt))
+    (λ c κs. (c .before .before .before .before .before .before .before .before .before .before .before .before .before .pre, lit< tt))
+    (λ c κs. (c .before .before .before .before .before .before .before .before .before .before .before .before .before .before .pre, lit< tt))
+    (λ c κs. (c .before .before .before .before .before .before .before .before .before .before .before .before .before .before .before .pre, lit< tt))
+    (λ c κs. (c .before .before .before .before .before .before .before .before .before .before .before .before .before .before .before .before .pre, lit< tt))
+    returns)
