@@ -1,0 +1,187 @@
+/*
+ * Document 01's loop, from C: verifies it, runs it, steps it, and shows two refusals. Prints what it found and
+ * exits with 1 if anything differs from what document 01 says.
+ */
+#include "madsjirn.h"
+
+#include <stdbool.h>
+#include <stdio.h>
+#include <string.h>
+
+enum {
+    BASE = 0x20000000,
+    SIZE = 4096,
+    GUARD = 256,
+    OFFSET = 1000,      /* where the region begins in the host's memory */
+    MEMORY_LENGTH = 10000,
+    FILE_LENGTH = (3 + 12) + (3 + 4 * 8) + (3 + 2 * 68)
+};
+
+static bool failed = false;
+
+static void expect(bool holds, const char *what) {
+    printf("  %s %s\n", holds ? "ok   " : "WRONG", what);
+    failed = failed || !holds;
+}
+
+/* A file under construction: bytes written so far. */
+typedef struct {
+    uint8_t bytes[FILE_LENGTH];
+    size_t length;
+} file_builder;
+
+static void put_u8(file_builder *file, uint8_t value) {
+    file->bytes[file->length] = value;
+    file->length += 1;
+}
+
+static void put_u16(file_builder *file, uint16_t value) {
+    put_u8(file, (uint8_t)(value & 0xff));
+    put_u8(file, (uint8_t)(value >> 8));
+}
+
+static void put_u32(file_builder *file, uint32_t value) {
+    put_u16(file, (uint16_t)(value & 0xffff));
+    put_u16(file, (uint16_t)(value >> 16));
+}
+
+static void put_header(file_builder *file, uint8_t tag, uint16_t length) {
+    put_u8(file, tag);
+    put_u16(file, length);
+}
+
+static void put_instruction(file_builder *file, uint8_t op, uint8_t a, uint8_t b, uint8_t w, uint32_t imm) {
+    put_u8(file, op);
+    put_u8(file, a);
+    put_u8(file, b);
+    put_u8(file, w);
+    put_u32(file, imm);
+}
+
+/* A target that claims a range for r1 and anything for the other registers. */
+static void put_target(file_builder *file, uint16_t index, uint8_t kind, uint32_t r1_lowest, uint32_t r1_highest) {
+    put_u16(file, index);
+    put_u8(file, kind);
+    put_u8(file, 0);
+    for (int r = 0; r < 8; r++) {
+        put_u32(file, r == 1 ? r1_lowest : 0);
+        put_u32(file, r == 1 ? r1_highest : UINT32_MAX);
+    }
+}
+
+static file_builder loop_module(void) {
+    file_builder file = {{0}, 0};
+    put_header(&file, 1, 12);
+    put_u32(&file, BASE);
+    put_u32(&file, SIZE);
+    put_u32(&file, GUARD);
+    put_header(&file, 2, 4 * 8);
+    put_instruction(&file, 7, 1, 0, 0, 0);  /* 0 guard r1 */
+    put_instruction(&file, 10, 0, 1, 4, 0); /* 1 load r0, r1, width 4, imm 0 */
+    put_instruction(&file, 4, 1, 0, 0, 4);  /* 2 addi r1, 4 */
+    put_instruction(&file, 12, 0, 0, 0, 1); /* 3 jump 1 */
+    put_header(&file, 3, 2 * 68);
+    put_target(&file, 0, 1, 0, UINT32_MAX);                  /* indirect */
+    put_target(&file, 1, 0, BASE, (uint32_t)BASE + SIZE + 3); /* inner: DB to DL + 4 */
+    return file;
+}
+
+/* The host's memory: the region, and bytes around it that no run may change. */
+static uint8_t memory[MEMORY_LENGTH];
+
+static uint8_t host_byte(size_t i) {
+    return (uint8_t)(i * 7 + 3);
+}
+
+static void fill_memory(void) {
+    for (size_t i = 0; i < MEMORY_LENGTH; i++) {
+        memory[i] = host_byte(i);
+    }
+}
+
+/* The loop stores nothing, so the region too stays as the host filled it. */
+static bool memory_is_as_filled(void) {
+    for (size_t i = 0; i < MEMORY_LENGTH; i++) {
+        if (memory[i] != host_byte(i)) {
+            return false;
+        }
+    }
+    return true;
+}
+
+static bool same_machine(const madsjirn_machine *one, const madsjirn_machine *other) {
+    return memcmp(one->registers, other->registers, sizeof one->registers) == 0 && one->pc == other->pc;
+}
+
+static void show_reading(const file_builder *file) {
+    madsjirn_module module = madsjirn_read(file->bytes, file->length);
+    printf("read: base %08x, size %u, guard %u, %u instructions, %u targets\n", (unsigned)module.base,
+           (unsigned)module.size, (unsigned)module.guard, (unsigned)module.instructions, (unsigned)module.targets);
+    expect(module.refusal == MADSJIRN_ACCEPTED && module.base == BASE && module.size == SIZE &&
+               module.guard == GUARD && module.instructions == 4 && module.targets == 2,
+           "readable, with the layout and counts that were written");
+
+    madsjirn_verdict verdict = madsjirn_verify(file->bytes, file->length);
+    printf("verify: refusal %u, %u instructions, %u targets\n", (unsigned)verdict.refusal,
+           (unsigned)verdict.instructions, (unsigned)verdict.targets);
+    expect(verdict.refusal == MADSJIRN_ACCEPTED && verdict.instructions == 4 && verdict.targets == 2,
+           "accepted 4 2");
+}
+
+static void show_run(const file_builder *file) {
+    madsjirn_machine machine = {{0}, 0};
+    fill_memory();
+    madsjirn_answer answer =
+        madsjirn_run(file->bytes, file->length, &machine, memory, MEMORY_LENGTH, OFFSET, UINT32_MAX);
+    printf("run: ending %u, %u steps, pc %u, r1 %08x\n", (unsigned)answer.ending, (unsigned)answer.steps,
+           (unsigned)machine.pc, (unsigned)machine.registers[1]);
+    expect(answer.refusal == MADSJIRN_ACCEPTED && answer.ending == MADSJIRN_TRAPPED && answer.steps == 3074,
+           "trapped after 3,074 steps");
+    expect(machine.pc == 1 && machine.registers[1] == (uint32_t)BASE + SIZE, "pc 1, r1 20001000");
+    expect(memory_is_as_filled(), "no byte of memory changed");
+}
+
+static void show_step(const file_builder *file) {
+    madsjirn_machine machine = {{0, 0x12345678}, 0};
+    fill_memory();
+    madsjirn_answer answer = madsjirn_step(file->bytes, file->length, &machine, memory, MEMORY_LENGTH, OFFSET);
+    printf("step: ending %u, %u steps, pc %u, r1 %08x\n", (unsigned)answer.ending, (unsigned)answer.steps,
+           (unsigned)machine.pc, (unsigned)machine.registers[1]);
+    expect(answer.refusal == MADSJIRN_ACCEPTED && answer.ending == MADSJIRN_OUT_OF_BUDGET && answer.steps == 1,
+           "one step made, and the run could go on");
+    expect(machine.pc == 1 && machine.registers[1] == BASE + 0x678, "pc 1, r1 guarded");
+    expect(memory_is_as_filled(), "no byte of memory changed");
+}
+
+static void show_refused_file(void) {
+    const uint8_t nothing[1] = {0};
+    madsjirn_verdict verdict = madsjirn_verify(nothing, 0);
+    printf("verify of an empty file: refused %u %u\n", (unsigned)verdict.refusal, (unsigned)verdict.place);
+    expect(verdict.refusal == MADSJIRN_TRUNCATED && verdict.place == 0 && verdict.instructions == 0 &&
+               verdict.targets == 0,
+           "truncated at 0");
+}
+
+static void show_refused_run(const file_builder *file, size_t offset) {
+    const madsjirn_machine before = {{1, 2, 3, 4, 5, 6, 7, 8}, 3};
+    madsjirn_machine machine = before;
+    fill_memory();
+    madsjirn_answer answer =
+        madsjirn_run(file->bytes, file->length, &machine, memory, MEMORY_LENGTH, offset, 100);
+    printf("run at offset %zu: refused %u %u\n", offset, (unsigned)answer.refusal, (unsigned)answer.place);
+    expect(answer.refusal == MADSJIRN_NO_ROOM && answer.place == 0, "no room at 0");
+    expect(answer.ending == MADSJIRN_REFUSED && answer.steps == 0, "ending refused, 0 steps");
+    expect(same_machine(&machine, &before) && memory_is_as_filled(), "machine and memory unchanged");
+}
+
+int main(void) {
+    const file_builder file = loop_module();
+    show_reading(&file);
+    show_run(&file);
+    show_step(&file);
+    show_refused_file();
+    show_refused_run(&file, MEMORY_LENGTH - SIZE + 1);
+    show_refused_run(&file, SIZE_MAX);
+    puts(failed ? "something differs" : "all as document 01 says");
+    return failed ? 1 : 0;
+}

@@ -1,0 +1,30 @@
+//! Compares the proved library with the hand-written one on generated modules and lists of runs.
+
+pub mod answers;
+mod difference;
+mod files;
+mod lists;
+mod plan;
+mod tally;
+
+pub use difference::Difference;
+pub use tally::Tally;
+
+use difference::guarded;
+
+/// The seed where none is named.
+pub const SEED: u64 = 20_260_101;
+
+/// Compares `modules` files and `lists` lists of runs. Stops at the first difference.
+pub fn compare(seed: u64, modules: u64, lists: u64) -> Result<Tally, Difference> {
+    let mut tally = Tally::default();
+    for case in 0..modules {
+        guarded(|| files::compare_file(seed, case, &mut tally))
+            .map_err(|what| Difference::new(seed, "module", case, what))?;
+    }
+    for case in 0..lists {
+        guarded(|| lists::compare_list(seed, case, &mut tally))
+            .map_err(|what| Difference::new(seed, "list", case, what))?;
+    }
+    Ok(tally)
+}

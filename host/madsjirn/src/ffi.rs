@@ -1,0 +1,113 @@
+//! The C interface of the proved library, `include/madsjirn.h`. All of this package's `unsafe` is here.
+
+use crate::Machine;
+
+/// `MADSJIRN_REFUSED`: the ending of a run that was not made.
+pub(crate) const REFUSED: u32 = 5;
+
+/// `madsjirn_module`.
+#[repr(C)]
+pub(crate) struct Module {
+    pub(crate) refusal: u32,
+    pub(crate) place: u32,
+    pub(crate) base: u32,
+    pub(crate) size: u32,
+    pub(crate) guard: u32,
+    pub(crate) instructions: u32,
+    pub(crate) targets: u32,
+}
+
+/// `madsjirn_verdict`.
+#[repr(C)]
+pub(crate) struct Verdict {
+    pub(crate) refusal: u32,
+    pub(crate) place: u32,
+    pub(crate) instructions: u32,
+    pub(crate) targets: u32,
+}
+
+/// `madsjirn_answer`.
+#[repr(C)]
+pub(crate) struct Answer {
+    pub(crate) refusal: u32,
+    pub(crate) place: u32,
+    pub(crate) ending: u32,
+    pub(crate) steps: u32,
+}
+
+// The sizes that the header asserts.
+const _: () = assert!(size_of::<Machine>() == 36);
+const _: () = assert!(size_of::<Module>() == 28);
+const _: () = assert!(size_of::<Verdict>() == 16);
+const _: () = assert!(size_of::<Answer>() == 16);
+
+extern "C" {
+    fn madsjirn_read(file: *const u8, file_length: usize) -> Module;
+    fn madsjirn_verify(file: *const u8, file_length: usize) -> Verdict;
+    fn madsjirn_run(
+        file: *const u8,
+        file_length: usize,
+        machine: *mut Machine,
+        memory: *mut u8,
+        memory_length: usize,
+        offset: usize,
+        budget: u32,
+    ) -> Answer;
+    fn madsjirn_step(
+        file: *const u8,
+        file_length: usize,
+        machine: *mut Machine,
+        memory: *mut u8,
+        memory_length: usize,
+        offset: usize,
+    ) -> Answer;
+}
+
+pub(crate) fn read(file: &[u8]) -> Module {
+    // SAFETY: a slice's pointer is not null and is valid to read for its length.
+    // The function takes any bytes and keeps no pointer.
+    unsafe { madsjirn_read(file.as_ptr(), file.len()) }
+}
+
+pub(crate) fn verify(file: &[u8]) -> Verdict {
+    // SAFETY: as for `read`.
+    unsafe { madsjirn_verify(file.as_ptr(), file.len()) }
+}
+
+pub(crate) fn run(
+    file: &[u8],
+    machine: &mut Machine,
+    memory: &mut [u8],
+    offset: usize,
+    budget: u32,
+) -> Answer {
+    // SAFETY: the pointers are valid for their lengths and not null, since they come from references;
+    // `machine` and `memory` are borrowed mutably, so the three do not overlap. `Machine` has the
+    // layout of `madsjirn_machine`. The function takes any bytes, machine, offset and budget, and
+    // keeps no pointer.
+    unsafe {
+        madsjirn_run(
+            file.as_ptr(),
+            file.len(),
+            machine,
+            memory.as_mut_ptr(),
+            memory.len(),
+            offset,
+            budget,
+        )
+    }
+}
+
+pub(crate) fn step(file: &[u8], machine: &mut Machine, memory: &mut [u8], offset: usize) -> Answer {
+    // SAFETY: as for `run`.
+    unsafe {
+        madsjirn_step(
+            file.as_ptr(),
+            file.len(),
+            machine,
+            memory.as_mut_ptr(),
+            memory.len(),
+            offset,
+        )
+    }
+}

@@ -1,0 +1,176 @@
+//! Modules as tables, and the bytes of their files. Nothing is checked: wrong modules are wanted too.
+
+/// Base, size and guard.
+#[derive(Clone, Copy, Debug, PartialEq, Eq)]
+pub struct Layout {
+    pub base: u32,
+    pub size: u32,
+    pub guard: u32,
+}
+
+impl Layout {
+    /// The layout of document 01's known outcomes.
+    pub const KNOWN: Layout = Layout {
+        base: 0x2000_0000,
+        size: 4096,
+        guard: 256,
+    };
+
+    /// The region's first address, DB.
+    pub fn first(self) -> u32 {
+        self.base
+    }
+
+    /// The region's last address, DL.
+    pub fn last(self) -> u32 {
+        self.base.wrapping_add(self.size.wrapping_sub(1))
+    }
+
+    /// The region as a range.
+    pub fn region(self) -> Range {
+        (self.first(), self.last())
+    }
+}
+
+/// A lowest and a highest value.
+pub type Range = (u32, u32);
+
+/// The range of every word.
+pub const ANYTHING: Range = (0, u32::MAX);
+
+/// An instruction's eight bytes, used or not.
+#[derive(Clone, Copy, Debug, PartialEq, Eq)]
+pub struct Instruction {
+    pub op: u8,
+    pub a: u8,
+    pub b: u8,
+    pub w: u8,
+    pub imm: u32,
+}
+
+/// The opcodes of document 01's table.
+pub mod op {
+    pub const HALT: u8 = 0;
+    pub const SET: u8 = 1;
+    pub const COPY: u8 = 2;
+    pub const ADD: u8 = 3;
+    pub const ADDI: u8 = 4;
+    pub const SUB: u8 = 5;
+    pub const ANDI: u8 = 6;
+    pub const GUARD: u8 = 7;
+    pub const SHR: u8 = 8;
+    pub const SAR: u8 = 9;
+    pub const LOAD: u8 = 10;
+    pub const STORE: u8 = 11;
+    pub const JUMP: u8 = 12;
+    pub const BRANCH: u8 = 13;
+    pub const CHECK: u8 = 14;
+    pub const JUMPR: u8 = 15;
+}
+
+/// The tests of a branch.
+pub mod test {
+    pub const EQUAL: u8 = 0;
+    pub const BELOW: u8 = 1;
+    pub const SIGNED_BELOW: u8 = 2;
+}
+
+/// A target's fields; `zero` is its unused byte.
+#[derive(Clone, Copy, Debug, PartialEq, Eq)]
+pub struct Target {
+    pub index: u16,
+    pub kind: u8,
+    pub zero: u8,
+    pub claim: [Range; 8],
+}
+
+/// The kinds of a target.
+pub const INNER: u8 = 0;
+pub const INDIRECT: u8 = 1;
+
+impl Target {
+    pub fn indirect(index: u16) -> Target {
+        Target {
+            index,
+            kind: INDIRECT,
+            zero: 0,
+            claim: [ANYTHING; 8],
+        }
+    }
+
+    pub fn inner(index: u16, claim: [Range; 8]) -> Target {
+        Target {
+            index,
+            kind: INNER,
+            zero: 0,
+            claim,
+        }
+    }
+
+    pub fn is_indirect(&self) -> bool {
+        self.kind == INDIRECT
+    }
+}
+
+/// A module's three tables.
+#[derive(Clone, Debug, PartialEq, Eq)]
+pub struct Module {
+    pub layout: Layout,
+    pub code: Vec<Instruction>,
+    pub targets: Vec<Target>,
+}
+
+impl Module {
+    /// The module's file. Lengths are cut to 16 bits, as the file has no more for them.
+    pub fn to_bytes(&self) -> Vec<u8> {
+        let Layout { base, size, guard } = self.layout;
+        let mut file = Vec::new();
+        put_field(&mut file, 1, |value| {
+            for word in [base, size, guard] {
+                value.extend(word.to_le_bytes());
+            }
+        });
+        put_field(&mut file, 2, |value| {
+            for &instruction in &self.code {
+                put_instruction(value, instruction);
+            }
+        });
+        put_field(&mut file, 3, |value| {
+            for target in &self.targets {
+                put_target(value, target);
+            }
+        });
+        file
+    }
+
+    /// The target at an index, if there is one.
+    pub fn target_at(&self, index: usize) -> Option<&Target> {
+        let found = self
+            .targets
+            .binary_search_by_key(&index, |target| usize::from(target.index));
+        found.ok().map(|number| &self.targets[number])
+    }
+}
+
+fn put_field(file: &mut Vec<u8>, tag: u8, put_value: impl FnOnce(&mut Vec<u8>)) {
+    let mut value = Vec::new();
+    put_value(&mut value);
+    file.push(tag);
+    file.extend((value.len() as u16).to_le_bytes());
+    file.extend(value);
+}
+
+fn put_instruction(value: &mut Vec<u8>, instruction: Instruction) {
+    let Instruction { op, a, b, w, imm } = instruction;
+    value.extend([op, a, b, w]);
+    value.extend(imm.to_le_bytes());
+}
+
+fn put_target(value: &mut Vec<u8>, target: &Target) {
+    value.extend(target.index.to_le_bytes());
+    value.extend([target.kind, target.zero]);
+    for (lowest, highest) in target.claim {
+        value.extend(lowest.to_le_bytes());
+        value.extend(highest.to_le_bytes());
+    }
+}

@@ -1,0 +1,109 @@
+//! The ranges that the generator follows, so that it knows what it may write next. Rules W, N and B of document 01.
+
+use crate::encode::{op, test, Instruction, Layout, Range, ANYTHING};
+
+pub type Ranges = [Range; 8];
+
+pub fn covers(outer: Range, inner: Range) -> bool {
+    outer.0 <= inner.0 && inner.1 <= outer.1
+}
+
+pub fn covers_all(claim: &Ranges, ranges: &Ranges) -> bool {
+    claim
+        .iter()
+        .zip(ranges)
+        .all(|(&claim, &range)| covers(claim, range))
+}
+
+fn cut(range: Range, to: (i64, i64)) -> Option<Range> {
+    let lowest = i64::from(range.0).max(to.0);
+    let highest = i64::from(range.1).min(to.1);
+    (lowest <= highest).then_some((lowest as u32, highest as u32))
+}
+
+fn rule_w(lowest: i64, highest: i64) -> Range {
+    const COUNT: i64 = 1 << 32;
+    let turn = lowest.div_euclid(COUNT);
+    if turn == highest.div_euclid(COUNT) {
+        (lowest as u32, highest as u32)
+    } else {
+        ANYTHING
+    }
+}
+
+/// The displacements that keep rule 10 for a width and a pointer's range, lowest and highest.
+pub fn displacements(layout: Layout, pointer: Range, width: u8) -> Option<(i32, i32)> {
+    let guard = i64::from(layout.guard);
+    let lowest = i64::from(layout.first()) - guard - i64::from(pointer.0);
+    let highest = i64::from(layout.last()) + guard + 1 - i64::from(width) - i64::from(pointer.1);
+    let lowest = lowest.max(i32::MIN.into());
+    let highest = highest.min(i32::MAX.into());
+    (lowest <= highest).then_some((lowest as i32, highest as i32))
+}
+
+/// The ranges after an instruction that goes to the next index and is no branch.
+pub fn after(layout: Layout, mut ranges: Ranges, instruction: Instruction) -> Ranges {
+    let Instruction { op, w, imm, .. } = instruction;
+    let (a, b) = (usize::from(instruction.a), usize::from(instruction.b));
+    let (lowest, highest) = (i64::from(ranges[a].0), i64::from(ranges[a].1));
+    let other = (i64::from(ranges[b].0), i64::from(ranges[b].1));
+    let displacement = i64::from(imm as i32);
+    match op {
+        op::SET => ranges[a] = (imm, imm),
+        op::COPY => ranges[a] = ranges[b],
+        op::ADD => ranges[a] = rule_w(lowest + other.0, highest + other.1),
+        op::ADDI => ranges[a] = rule_w(lowest + displacement, highest + displacement),
+        op::SUB => ranges[a] = rule_w(lowest - other.1, highest - other.0),
+        op::ANDI => ranges[a] = (0, ranges[a].1.min(imm)),
+        op::GUARD if !covers(layout.region(), ranges[a]) => ranges[a] = layout.region(),
+        op::SHR => ranges[a] = (ranges[a].0 >> w, ranges[a].1 >> w),
+        op::SAR => ranges[a] = after_sar(ranges[a], w),
+        op::LOAD | op::STORE => {
+            if imm == 0 {
+                let region = (layout.first().into(), layout.last().into());
+                ranges[b] = cut(ranges[b], region).unwrap_or(ranges[b]);
+            }
+            if op == op::LOAD {
+                ranges[a] = (0, u32::MAX >> (32 - 8 * w));
+            }
+        }
+        _ => {}
+    }
+    ranges
+}
+
+fn after_sar(range: Range, w: u8) -> Range {
+    let (lowest, highest) = (range.0 as i32, range.1 as i32);
+    if (lowest < 0) == (highest < 0) {
+        ((lowest >> w) as u32, (highest >> w) as u32)
+    } else {
+        ANYTHING
+    }
+}
+
+/// The ranges after a branch, taken and not taken.
+pub fn after_branch(ranges: Ranges, branch: Instruction) -> (Ranges, Ranges) {
+    let (a, b) = (usize::from(branch.a), usize::from(branch.b));
+    let first = (i64::from(ranges[a].0), i64::from(ranges[a].1));
+    let second = (i64::from(ranges[b].0), i64::from(ranges[b].1));
+    if a == b {
+        return (ranges, ranges);
+    }
+    let both_cut = |to_a, to_b| match (cut(ranges[a], to_a), cut(ranges[b], to_b)) {
+        (Some(cut_a), Some(cut_b)) => {
+            let mut after = ranges;
+            (after[a], after[b]) = (cut_a, cut_b);
+            after
+        }
+        _ => ranges,
+    };
+    const TOP: i64 = u32::MAX as i64;
+    match branch.w {
+        test::EQUAL => (both_cut(second, first), ranges),
+        test::BELOW => (
+            both_cut((0, second.1 - 1), (first.0 + 1, TOP)),
+            both_cut((second.0, TOP), (0, first.1)),
+        ),
+        _ => (ranges, ranges),
+    }
+}

@@ -1,0 +1,117 @@
+//! Reader, verifier and stepping machine for modules: `handwritten`, tuned by measuring.
+//!
+//! One bound serves for budget and end of the code, a last instruction that only goes on is left out of the
+//! loop, operands are decoded where they are used, and a range is one word.
+//!
+//! Nothing is kept between calls: each one is handed the module's bytes and judges them afresh.
+//! There is no heap, and no table on the stack above one kibibyte.
+
+#![no_std]
+#![forbid(unsafe_code)]
+
+mod machine;
+mod reader;
+mod verifier;
+
+// Addresses are 32 bits and are used as slice offsets.
+const _: () = assert!(usize::BITS >= 32);
+
+/// Why a module or a run was refused: the refusal's number and its place.
+#[derive(Clone, Copy, Debug, PartialEq, Eq)]
+pub struct Refusal {
+    pub number: u32,
+    pub place: u32,
+}
+
+/// A well-formed module: its layout and how much it holds.
+#[derive(Clone, Copy, Debug, PartialEq, Eq)]
+pub struct Module {
+    pub base: u32,
+    pub size: u32,
+    pub guard: u32,
+    pub instructions: u32,
+    pub targets: u32,
+}
+
+/// A module that the verifier accepts.
+#[derive(Clone, Copy, Debug, PartialEq, Eq)]
+pub struct Accepted {
+    pub instructions: u32,
+    pub targets: u32,
+}
+
+/// The machine record that a run updates.
+#[derive(Clone, Copy, Debug, PartialEq, Eq)]
+pub struct Machine {
+    pub registers: [u32; 8],
+    pub pc: u16,
+}
+
+/// How a run ended.
+#[derive(Clone, Copy, Debug, PartialEq, Eq)]
+pub enum Ending {
+    Halted,
+    /// An access reached a guard zone.
+    Trapped,
+    /// A check met a value that is no indirect target.
+    Denied,
+    /// An access or a transfer left everything the module may reach.
+    Violated,
+    /// The budget is used and the run could go on.
+    OutOfBudget,
+}
+
+/// The answer to a run; `steps` includes the ending step.
+#[derive(Clone, Copy, Debug, PartialEq, Eq)]
+pub struct Run {
+    pub ending: Ending,
+    pub steps: u32,
+}
+
+/// Judges the file's form: refusals 1 to 7.
+pub fn read(file: &[u8]) -> Result<Module, Refusal> {
+    let parts = reader::parts(file)?;
+    Ok(Module {
+        base: parts.layout.base,
+        size: parts.layout.size,
+        guard: parts.layout.guard,
+        instructions: parts.code.len() as u32,
+        targets: parts.targets.len() as u32,
+    })
+}
+
+/// Judges the file's form and its claims: refusals 1 to 13.
+pub fn verify(file: &[u8]) -> Result<Accepted, Refusal> {
+    let parts = reader::parts(file)?;
+    verifier::verify(&parts)?;
+    Ok(Accepted {
+        instructions: parts.code.len() as u32,
+        targets: parts.targets.len() as u32,
+    })
+}
+
+/// Steps the machine at most `budget` times, with the region at `offset` in `memory`.
+/// Refusals 1 to 7, 14 and 15; a refused run changes nothing.
+pub fn run(
+    file: &[u8],
+    machine: &mut Machine,
+    memory: &mut [u8],
+    offset: usize,
+    budget: u32,
+) -> Result<Run, Refusal> {
+    let parts = reader::parts(file)?;
+    if usize::from(machine.pc) >= parts.code.len() {
+        return Err(Refusal {
+            number: 14,
+            place: 0,
+        });
+    }
+    let region = memory
+        .get_mut(offset..)
+        .and_then(|rest| rest.get_mut(..parts.layout.size as usize))
+        .ok_or(Refusal {
+            number: 15,
+            place: 0,
+        })?;
+    Ok(machine::run(&parts, machine, region, budget))
+}

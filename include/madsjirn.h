@@ -1,0 +1,157 @@
+/*
+ * madsjirn: judges and runs modules. The interface of the proved library libmadsjirn.a.
+ *
+ * Every function takes anything: any bytes as a file, any machine, memory, offset and budget. There is nothing
+ * to test beforehand. The only demands are those of C on pointers:
+ *
+ *   - a pointer is not NULL and is valid for its length, even where the length is 0: file and memory for
+ *     file_length and memory_length bytes, machine for one madsjirn_machine;
+ *   - file, machine and memory do not overlap;
+ *   - nobody else writes to them during the call.
+ *
+ * Nothing is kept between calls: no pointer, no state, no heap. Calls on different machines and memories may be
+ * made at the same time. Each call gets the module's bytes and judges them.
+ *
+ * Answers are numbers: member refusal is 0, or the number of the first rule broken, in document 01's order, and
+ * place says where: an offset into the file, or an index, as listed below. Where refusal is 0, place means
+ * nothing. No other numbers than those named below occur.
+ *
+ * "Document 01" is the scope document. Where its word differs from the name here it stands in quotes.
+ */
+#ifndef MADSJIRN_H
+#define MADSJIRN_H
+
+#include <stddef.h>
+#include <stdint.h>
+
+#ifdef __cplusplus
+extern "C" {
+#endif
+
+/* Refusals, by the numbers of document 01's table, each with what its place is. */
+enum {
+    MADSJIRN_ACCEPTED = 0,         /* no refusal */
+
+    /* The file; judged by every function. */
+    MADSJIRN_TRUNCATED = 1,        /* "short": the bytes end inside a field; the field's offset */
+    MADSJIRN_WRONG_TAG = 2,        /* not the tag that is due; the field's offset */
+    MADSJIRN_BAD_LENGTH = 3,       /* a length that is not listed; the field's offset */
+    MADSJIRN_TRAILING_BYTES = 4,   /* "tail": bytes after the third field; the offset of the first */
+    MADSJIRN_BAD_LAYOUT = 5,       /* base, size and guard do not fit together; 0 */
+    MADSJIRN_BAD_INSTRUCTION = 6,  /* opcode, operand or unused byte; the lowest index */
+    MADSJIRN_BAD_TARGET = 7,       /* "bad door"; the lowest target's number, counted from 0 */
+
+    /* The code; judged by madsjirn_verify. The place is the instruction's index. */
+    MADSJIRN_NO_TARGET = 8,        /* "no door": a jump or branch to what is no target */
+    MADSJIRN_UNCHECKED_JUMP = 9,   /* jumpr without check of its register just before it, or itself a target */
+    MADSJIRN_WILD_ACCESS = 10,     /* an access may reach outside the region and its guard zones */
+    MADSJIRN_BROKEN_CLAIM = 11,    /* the ranges on an edge to a target are not within its claim */
+    MADSJIRN_UNREACHABLE = 12,     /* "no way in": after halt, jump or jumpr, and no target */
+    MADSJIRN_FALLS_OFF = 13,       /* "runs off": the last instruction is no halt, jump or jumpr */
+
+    /* The call; judged by madsjirn_run and madsjirn_step. The place is 0. */
+    MADSJIRN_BAD_PC = 14,          /* "bad place": the machine's pc is no instruction's index */
+    MADSJIRN_NO_ROOM = 15          /* "no ground": offset + size exceeds memory_length */
+};
+
+/* Endings of a run. */
+enum {
+    MADSJIRN_HALTED = 0,           /* a halt was reached */
+    MADSJIRN_TRAPPED = 1,          /* an access reached into a guard zone */
+    MADSJIRN_DENIED = 2,           /* "turned away": a check found no indirect target's index */
+    MADSJIRN_VIOLATED = 3,         /* "strayed": never by an accepted module begun at an indirect target */
+    MADSJIRN_OUT_OF_BUDGET = 4,    /* "spent": the budget is used and the run could go on */
+    MADSJIRN_REFUSED = 5           /* no step was made: member refusal says why */
+};
+
+/* The machine record that the host lends to a run: r0 to r7, and the index of the next instruction ("place"). */
+typedef struct {
+    uint32_t registers[8];
+    uint16_t pc;
+} madsjirn_machine;
+
+/* What madsjirn_read answers. Where refusal is not 0, all members after place are 0. */
+typedef struct {
+    uint32_t refusal;      /* 0, or 1 to 7 */
+    uint32_t place;
+    uint32_t base;         /* the address of the region's first byte */
+    uint32_t size;         /* the region's bytes: a power of two, 256 to 65,536 */
+    uint32_t guard;        /* the bytes of each guard zone, 0 to 4,096 */
+    uint32_t instructions; /* 1 to 4,096 */
+    uint32_t targets;      /* "doors", 1 to 256 */
+} madsjirn_module;
+
+/* What madsjirn_verify answers. Where refusal is not 0, all members after place are 0. */
+typedef struct {
+    uint32_t refusal;      /* 0: accepted; or 1 to 13 */
+    uint32_t place;
+    uint32_t instructions; /* 1 to 4,096 */
+    uint32_t targets;      /* "doors", 1 to 256 */
+} madsjirn_verdict;
+
+/* What madsjirn_run and madsjirn_step answer. */
+typedef struct {
+    uint32_t refusal; /* 0: the run was made; or 1 to 7, 14, 15 */
+    uint32_t place;
+    uint32_t ending;  /* MADSJIRN_HALTED to MADSJIRN_OUT_OF_BUDGET; MADSJIRN_REFUSED where refusal is not 0 */
+    uint32_t steps;   /* the steps made, the ending one included; 0 where refusal is not 0 */
+} madsjirn_answer;
+
+/*
+ * Reads a module file: rules 1 to 7.
+ *
+ * Yields refusal 0 with layout and counts if the file is readable, that is, if a run of it can be made;
+ * else the first rule broken, and the rest 0. Changes nothing.
+ */
+madsjirn_module madsjirn_read(const uint8_t *file, size_t file_length);
+
+/*
+ * Judges a module file: rules 1 to 13.
+ *
+ * Yields refusal 0 with the counts exactly if the module keeps every rule; else the first rule broken, and the
+ * rest 0. Changes nothing. A run of an accepted module that begins at an indirect target, with any registers
+ * and any bytes in the region, never ends as MADSJIRN_VIOLATED.
+ */
+madsjirn_verdict madsjirn_verify(const uint8_t *file, size_t file_length);
+
+/*
+ * Runs a module on machine, from machine->pc on, for at most budget steps. The region is the module's size
+ * bytes of memory from offset on: memory[offset] has the address base.
+ *
+ * The module need only be readable. Refusals: 1 to 7 for the file, then 14, then 15, whatever the budget. A
+ * refused call leaves machine and every byte of memory as they were: ending is MADSJIRN_REFUSED, steps is 0.
+ *
+ * Else refusal is 0, and ending and steps say how the run ended and how many steps it made. It changes nothing
+ * but the registers and pc of machine, and size bytes of memory at offset. A step that ends the run (halted,
+ * trapped, denied, violated) is counted and changes nothing; machine->pc stays at that instruction. After
+ * MADSJIRN_OUT_OF_BUDGET a further call goes on where this one stopped.
+ */
+madsjirn_answer madsjirn_run(const uint8_t *file, size_t file_length, madsjirn_machine *machine, uint8_t *memory,
+                             size_t memory_length, size_t offset, uint32_t budget);
+
+/*
+ * Makes one step: madsjirn_run with budget 1. A step after which the run could go on ends as
+ * MADSJIRN_OUT_OF_BUDGET.
+ */
+madsjirn_answer madsjirn_step(const uint8_t *file, size_t file_length, madsjirn_machine *machine, uint8_t *memory,
+                              size_t memory_length, size_t offset);
+
+/* The library was compiled for these sizes. C99 has no assertion for it. */
+#if defined(__cplusplus) && __cplusplus >= 201103L
+#define MADSJIRN_ASSERT_SIZE(type, size) static_assert(sizeof(type) == (size), "size of " #type)
+#elif defined(__STDC_VERSION__) && __STDC_VERSION__ >= 201112L
+#define MADSJIRN_ASSERT_SIZE(type, size) _Static_assert(sizeof(type) == (size), "size of " #type)
+#else
+#define MADSJIRN_ASSERT_SIZE(type, size) typedef char type##_has_its_size[sizeof(type) == (size) ? 1 : -1]
+#endif
+MADSJIRN_ASSERT_SIZE(madsjirn_machine, 36);
+MADSJIRN_ASSERT_SIZE(madsjirn_module, 28);
+MADSJIRN_ASSERT_SIZE(madsjirn_verdict, 16);
+MADSJIRN_ASSERT_SIZE(madsjirn_answer, 16);
+#undef MADSJIRN_ASSERT_SIZE
+
+#ifdef __cplusplus
+}
+#endif
+
+#endif
