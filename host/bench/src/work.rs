@@ -1,5 +1,6 @@
 //! The pieces of work that are measured, each done by any of the implementations.
 
+use handwritten::tuned;
 use modules::samples;
 use std::hint::black_box;
 
@@ -158,7 +159,7 @@ impl Bench {
         let once = match implementation {
             Implementation::Proved => proved,
             Implementation::HandWritten => hand_written,
-            Implementation::Tuned => tuned,
+            Implementation::Tuned => hand_tuned,
         };
         let file = match work {
             Work::Read | Work::Verify => &self.largest,
@@ -213,4 +214,4 @@ macro_rules! doing {
 
 doing!(proved, madsjirn);
 doing!(hand_written, handwritten);
-doing!(tuned, tuned);
+doing!(hand_tuned, tuned);

@@ -1,5 +1,6 @@
 //! The tuned implementation answers as the hand-written one that it was made from: the benchmark times both.
 
+use handwritten::tuned;
 use modules::generate::generate;
 use modules::random::Random;
 

@@ -8,6 +8,7 @@
 
 mod machine;
 mod reader;
+pub mod tuned;
 mod verifier;
 
 // Addresses are 32 bits and are used as slice offsets.
@@ -81,10 +82,7 @@ pub fn read(file: &[u8]) -> Result<Module, Refusal> {
 pub fn verify(file: &[u8]) -> Result<Accepted, Refusal> {
     let parts = reader::parts(file)?;
     verifier::verify(&parts)?;
-    Ok(Accepted {
-        instructions: parts.code.len() as u32,
-        targets: parts.targets.len() as u32,
-    })
+    Ok(parts.accepted())
 }
 
 /// Steps the machine at most `budget` times, with the region at `offset` in `memory`.
@@ -96,6 +94,17 @@ pub fn run(
     offset: usize,
     budget: u32,
 ) -> Result<Run, Refusal> {
+    let (parts, region) = prepare(file, machine, memory, offset)?;
+    Ok(machine::run(&parts, machine, region, budget))
+}
+
+/// The module's parts and its region, or the refusal of a run.
+fn prepare<'f, 'm>(
+    file: &'f [u8],
+    machine: &Machine,
+    memory: &'m mut [u8],
+    offset: usize,
+) -> Result<(reader::Parts<'f>, &'m mut [u8]), Refusal> {
     let parts = reader::parts(file)?;
     if usize::from(machine.pc) >= parts.code.len() {
         return Err(Refusal {
@@ -110,5 +119,5 @@ pub fn run(
             number: 15,
             place: 0,
         })?;
-    Ok(machine::run(&parts, machine, region, budget))
+    Ok((parts, region))
 }

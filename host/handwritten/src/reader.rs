@@ -1,6 +1,6 @@
 //! The file's form: three fields, the layout, every instruction, every target.
 
-use crate::Refusal;
+use crate::{Accepted, Refusal};
 
 pub(crate) const MAX_INSTRUCTIONS: usize = 4096;
 const MAX_TARGETS: usize = 256;
@@ -23,6 +23,15 @@ pub(crate) struct Parts<'a> {
     pub layout: Layout,
     pub code: &'a [Instruction],
     pub targets: &'a [Target],
+}
+
+impl Parts<'_> {
+    pub fn accepted(&self) -> Accepted {
+        Accepted {
+            instructions: self.code.len() as u32,
+            targets: self.targets.len() as u32,
+        }
+    }
 }
 
 pub(crate) fn index(target: &Target) -> usize {

@@ -1,6 +1,7 @@
 //! The claims: one pass upward through the code, with the ranges updated in place.
 
-use crate::reader::{index, Decoder, Layout, Parts, Target, MAX_INSTRUCTIONS};
+use super::decoder::Decoder;
+use crate::reader::{index, Layout, Parts, Target, MAX_INSTRUCTIONS};
 use crate::Refusal;
 
 /// A register's lowest value in the low half and its highest in the high half, as in a claim.

@@ -1,8 +1,7 @@
 //! The stepping machine.
 
-use crate::reader::{
-    index, is_indirect, Decoder, Instruction, Layout, Parts, Target, MAX_INSTRUCTIONS,
-};
+use super::decoder::Decoder;
+use crate::reader::{index, is_indirect, Instruction, Layout, Parts, Target, MAX_INSTRUCTIONS};
 use crate::{Ending, Machine, Run};
 
 /// One bit for each index that an instruction can have.
