@@ -1,6 +1,6 @@
 //! Times the proved library beside the hand-written ones, on the same inputs in one run.
 //!
-//! - `bench`: a table of nanoseconds.
+//! - `bench times`: nanoseconds, as bare numbers (`host/times` makes a table of them).
 //! - `bench count IMPL WORK N`: does one piece of work N times and prints how many instructions were judged or
 //!   steps made, for a tool that counts the processor's instructions.
 //! - `bench write FOLDER`: writes the modules as files, and generated ones beside them.
@@ -14,7 +14,7 @@ use std::env;
 use std::process::ExitCode;
 use work::{Bench, Implementation, Work};
 
-const USAGE: &str = "usage: bench
+const USAGE: &str = "usage: bench times
        bench count proved|handwritten|tuned read|verify|loop|mixed|judge-loop|judge-mixed N
        bench write FOLDER";
 
@@ -25,8 +25,8 @@ fn main() -> ExitCode {
     let words: Vec<String> = env::args().skip(1).collect();
     let words: Vec<&str> = words.iter().map(String::as_str).collect();
     let done = match words[..] {
-        [] => {
-            time::print_table();
+        ["times"] => {
+            time::print_times();
             Some(())
         }
         ["count", implementation, work, times] => count(implementation, work, times),

@@ -1,4 +1,4 @@
-//! The table of nanoseconds: the implementations in turn, several rounds, the least of each.
+//! Nanoseconds: the implementations in turn, several rounds, the least of each.
 
 use crate::work::{Bench, Implementation, Work};
 use std::time::{Duration, Instant};
@@ -9,28 +9,17 @@ const ROUNDS: usize = 250;
 /// interrupted.
 const MEASUREMENT: Duration = Duration::from_millis(2);
 
-pub fn print_table() {
+/// A line for each piece of work: its name, its unit and the time of each implementation.
+pub fn print_times() {
     let mut bench = Bench::new();
-    println!("Nanoseconds per unit: the least of {ROUNDS} rounds, the three in turn, memory cleared before each round.");
-    println!("A ratio is the proved library's time over that of the implementation before it.");
-    println!();
-    println!(
-        "{:<12} {:<12} {:>10} {:>13} {:>7} {:>9} {:>7}",
-        "work", "per", "proved", "hand-written", "ratio", "tuned", "ratio"
-    );
     for work in Work::ALL {
         let [proved, handwritten, tuned] = measure(&mut bench, work);
         println!(
-            "{:<12} {:<12} {proved:>10.3} {handwritten:>13.3} {:>7.3} {tuned:>9.3} {:>7.3}",
+            "{} {} {proved} {handwritten} {tuned}",
             work.name(),
-            work.unit(),
-            proved / handwritten,
-            proved / tuned
+            work.unit()
         );
     }
-    println!();
-    println!("read, verify: 4,096 instructions, 256 targets; verify reads too. loop, mixed: each run judges its file first;");
-    println!("judge-loop, judge-mixed: that cost alone, a run with budget 0.");
 }
 
 /// Nanoseconds per unit of work, of each implementation.
