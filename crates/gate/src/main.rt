@@ -1,32 +1,23 @@
 // The gate program: the bytes of a module on standard input, one line on standard output: `accepted`, instructions, targets, or
 // `refused`, number, place. Of longer input than the longest module, 50,197 bytes, the first 65,536 bytes decide: what they come to
-// is what the whole comes to (`long-file`, in the model's proofs).
+// is what the whole comes to (`LongFiles`, in the model's promises).
 use libc::STDIN_FILENO;
 use libc::STDOUT_FILENO;
-use model::Verdict;
+ghost use Rattle.model.specs.Judgement.{judgement};
+ghost use Rattle.model.specs.Line.{LinePost};
 
-// A word and two decimal numbers, with one space between and one newline at the end.
-fn print_line(word: &[u8], first: u32, second: u32) {
-    io::write_all(STDOUT_FILENO, word);
-    io::write_all(STDOUT_FILENO, b" ");
-    io::print_decimal(STDOUT_FILENO, first as u64);
-    io::write_all(STDOUT_FILENO, b" ");
-    io::print_decimal(STDOUT_FILENO, second as u64);
-    io::write_all(STDOUT_FILENO, b"\n");
+// Writes the line of a file's judgement at the start of `text`, and answers its length.
+fn answer(file: &[u8], text: &mut [u8; line::ROOM]) -> usize
+    ensures { λ r. ⌜ LinePost (judgement (now (file .entry))) (now (text .entry)) (now (text .exit)) r ⌝ }
+{
+    let verdict = verifier::verify::verify(file);
+    line::write_line(verdict, text)
 }
 
 fn main() {
     let mut buffer = io::large_buffer();
     let n = io::read_full(STDIN_FILENO, &mut buffer);
-    let verdict = verifier::verify::verify(&buffer[..n]);
-    match verdict {
-        Verdict::Accepted {
-            instructions,
-            targets,
-        } => print_line(b"accepted", instructions, targets),
-        Verdict::Refused { refusal } => {
-            let rule = refusal.rule;
-            print_line(b"refused", reader::check::rule_number(rule), refusal.place);
-        }
-    }
+    let mut text = [0u8; line::ROOM];
+    let length = answer(&buffer[..n], &mut text);
+    io::write_all(STDOUT_FILENO, &text[..length]);
 }

@@ -6,10 +6,11 @@ use libc::STDOUT_FILENO;
 use model::Completion;
 use model::Ending;
 use model::Machine;
+use model::Steps;
 
 const OFFSET: usize = 1000;
 
-const BUDGET: u32 = 100_000;
+const BUDGET: Steps = 100_000;
 
 fn wide(x: u32) -> u64 {
     x as u64
@@ -43,8 +44,9 @@ fn main() {
         registers: [0; 8],
         pc: 0,
     };
-    let outcome = machine::lent::run_once(&file[..n], start, &mut memory, OFFSET, BUDGET);
-    let completion = outcome.completion;
+    let outcome = machine::value::run(&file[..n], start, &mut memory, OFFSET, BUDGET);
+    let answer = outcome.answer;
+    let completion = answer.completion;
     match completion {
         Completion::Ended { ending } => print_ending(ending),
         Completion::Refused { refusal: _ } => {
@@ -52,7 +54,7 @@ fn main() {
         }
     }
     io::write_all(STDOUT_FILENO, b" after ");
-    io::print_decimal(STDOUT_FILENO, outcome.steps as u64);
+    io::print_decimal(STDOUT_FILENO, answer.steps as u64);
     io::write_all(STDOUT_FILENO, b" steps, pc ");
     let after = outcome.machine;
     io::print_decimal(STDOUT_FILENO, after.pc as u64);

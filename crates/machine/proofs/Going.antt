@@ -1,18 +1,18 @@
 -- Where a step goes: to the next index, or to a target that the search found, by the tests of the definitions. Assumes nothing.
 use Prim.Native.Nat.{ℕ, _+_, _≤_, _<_}
-use mathlib.Core.Path.{_≡_, ap, _∙_}
+use mathlib.Core.Path.{_≡_, ap}
 use mathlib.Core.Bool.{Bool}
 use mathlib.Core.List.{List}
+use mathlib.Core.Option.{Option}
 use borrow.Author.Tests.{lt-ltb, le-ltb}
 use Rattle.model.specs.declared.Ending.the-variants.{Violated}
-use Rattle.model.specs.Program.{isTarget, isIndirect}
-use Rattle.model.specs.File.{programIn}
-use Rattle.model.specs.Rules.{FileKept}
-use Rattle.reader.specs.declared.lookup.Table.{Table}
-use Rattle.reader.specs.Lookups.{tableIn, isIndirectAt, foundBy, foundSuch, isFound}
-use Rattle.reader.proofs.Halving.{found-is-target, found-is-indirect}
+use Rattle.model.specs.declared.Target.{Target}
+use Rattle.model.specs.Program.{targetAt}
+use Rattle.model.specs.Quantifiers.{anyOf}
+use Rattle.reader.specs.declared.lookup.Lookup.{Lookup}
+use Rattle.reader.specs.Lookups.{targetFound, Rising, Finds}
 use Rattle.machine.specs.declared.places.Next.the-variants.{To, Ends}
-use Rattle.machine.specs.Core.{onwardOf}
+use Rattle.machine.specs.Core.{firstTargets, onwardOf}
 
 module _ (n pc : ℕ) where
   pub goes-onward : pc + 1 < n → To (pc + 1) ≡ onwardOf n pc
@@ -23,14 +23,8 @@ module _ (n pc : ℕ) where
   unfolding onwardOf
   strays-onward past = rw (le-ltb (pc + 1) n past)
 
--- what the search by a file's own table answers
-module _ (file : List ℕ) {targets : Table} (kept : FileKept file) (listed : targets ≡ tableIn file) (to : ℕ) {answer : Bool} where
-  pub target-tested : answer ≡ isFound (foundBy file targets to) → answer ≡ isTarget (programIn file .targets) to
-  target-tested tested =
-      tested ∙ (ap (λ (t : Table). isFound (foundBy file t to)) listed ∙ found-is-target file kept to)
-
-  pub indirect-tested : answer ≡ foundSuch (isIndirectAt file targets) (foundBy file targets to)
-      → answer ≡ isIndirect (programIn file .targets) to
-  indirect-tested tested =
-      tested
-      ∙ (ap (λ (t : Table). foundSuch (isIndirectAt file t) (foundBy file t to)) listed ∙ found-is-indirect file kept to)
+-- what is asked of the target that a search found is asked of the one that the model finds
+pub asked-of-found : {targets : List ℕ} {k to : ℕ} {found : Lookup} → Finds targets k to found → Rising targets k
+    → (other : Lookup) → found ≡ other → (test : Target → Bool)
+    → anyOf (targetFound targets other) test ≡ anyOf (targetAt (firstTargets targets k) to) test
+asked-of-found finds rises other told test = ap (λ (t : Option Target). anyOf t test) (rw told at (finds .rising rises))

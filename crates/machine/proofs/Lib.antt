@@ -1,10 +1,10 @@
 pub mod Reaching
 pub mod Going
 pub mod Settling
+pub mod Readiness
 pub mod Arms
-pub mod Fetching
 pub mod Looping
 pub mod Calling
 pub mod Lending
-pub mod Handing
+pub mod Outcomes
 pub mod Joined

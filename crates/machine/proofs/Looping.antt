@@ -11,35 +11,41 @@ use Rattle.model.specs.declared.Ending.{Ending}
 use Rattle.model.specs.declared.Ending.the-variants.{OutOfBudget}
 use Rattle.model.specs.declared.Layout.{Layout}
 use Rattle.model.specs.declared.Machine.{Machine}
+use Rattle.model.specs.declared.Outcome.{Outcome}
+use Rattle.model.specs.Program.{Program}
 use Rattle.model.specs.Step.{step}
-use Rattle.model.specs.File.{programIn}
+use Rattle.model.specs.File.{programOf}
 use Rattle.model.specs.Run.{Run, run, steps}
 use Rattle.model.proofs.Steady.{Steady}
-use Rattle.model.proofs.Targets.{code-length, readable-steady}
+use Rattle.model.proofs.Targets.{readable-steady}
 use Rattle.model.proofs.Joining.{Continues, continues-refl, continues-trans, continues-step, run-ends}
-use Rattle.reader.specs.declared.lookup.Table.{Table}
 use Rattle.machine.specs.declared.places.Next.{Next}
 use Rattle.machine.specs.declared.places.Next.the-variants.{To, Ends}
 use Rattle.machine.specs.Core.{nextFor, StepPost, Ready, LoopPost}
+use Rattle.reader.proofs.Fetching.{counted, program-count}
 
 abbrev pub machineOf : List ℕ → ℕ → Machine
 machineOf rs pc = record { registers = rs; pc = pc }
 
+-- a run that ended, as the loop hands it back
+abbrev endedWith : Machine → Ending → ℕ → Outcome
+endedWith m e made = record { machine = m; answer = record { completion = Completions.Ended e; steps = made } }
+
 -- what holds whenever the loop's test is reached
-pub record Underway (file : List ℕ) (n budget : ℕ) (start : Machine) (region₀ : List ℕ) (m : Machine) (region : List ℕ) (made : ℕ)
+pub record Underway (p : Program) (n budget : ℕ) (start : Machine) (region₀ : List ℕ) (m : Machine) (region : List ℕ) (made : ℕ)
     : Type 0 where
   pub within : made ≤ budget
   pub inside : m .pc < n
   pub room : length region ≡ length region₀
-  pub continues : Continues (run (programIn file) budget start region₀) (run (programIn file) (budget - made) m region) made
+  pub continues : Continues (run p budget start region₀) (run p (budget - made) m region) made
 
-pub underway-starts : (file : List ℕ) (n budget : ℕ) (m : Machine) (region : List ℕ) → m .pc < n
-    → Underway file n budget m region m region 0
-underway-starts file n budget m region below = record {
+pub underway-starts : (p : Program) (n budget : ℕ) (m : Machine) (region : List ℕ) → m .pc < n
+    → Underway p n budget m region m region 0
+underway-starts p n budget m region below = record {
   within = omega arith;
   inside = below;
   room = refl;
-  continues = rw sub-zero (continues-refl (run (programIn file) budget m region));
+  continues = rw sub-zero (continues-refl (run p budget m region));
 }
 
 -- where a step goes tells whether it ended the run
@@ -53,7 +59,7 @@ ends-some pc (some x) e same = cc
 
 -- what the whole run comes to, where it is known what the rest of it comes to
 run-over : (r rest : Run) (made : ℕ) → Continues r rest made
-    → LoopPost r (record { machine = rest .machine; completion = Completions.Ended (rest .ending); steps = made + steps rest }) (rest .region)
+    → LoopPost r (endedWith (rest .machine) (rest .ending) (made + steps rest)) (rest .region)
 run-over r rest made comes = record {
   machine = sym (comes .machine);
   completion = ap Completions.Ended (sym (comes .ending));
@@ -61,75 +67,69 @@ run-over r rest made comes = record {
   region = sym (comes .region);
 }
 
-module _ {file : List ℕ} {targets : Table} {l : Layout} {n budget : ℕ} {start m : Machine} {region₀ region : List ℕ} {made : ℕ}
-    (ready : Ready file targets l n (start .pc) region₀) (so-far : Underway file n budget start region₀ m region made) where
+module _ {l : Layout} {code targets : List ℕ} {n k budget : ℕ} {start m : Machine} {region₀ region : List ℕ} {made : ℕ}
+    (ready : Ready l code targets n k (start .pc) region₀)
+    (so-far : Underway (programOf l code targets) n budget start region₀ m region made) where
   -- the core is given what it was given at first
-  pub still-ready : Ready file targets l n (m .pc) region
+  pub still-ready : Ready l code targets n k (m .pc) region
   still-ready = record {
-    kept = ready .kept;
-    targets-is = ready .targets-is;
-    layout-is = ready .layout-is;
-    count-is = ready .count-is;
+    loaded = ready .loaded;
     pc-inside = so-far .inside;
     room = so-far .room ∙ ready .room;
   }
 
-  -- the index of an instruction is small
-  pub small-pc : m .pc < 65536
-  small-pc = omega arith
-
   module _ (left : made < budget) {next : Next} {rs′ region′ : List ℕ}
-      (stepped : StepPost (step (programIn file) m region) next rs′ region′) where
-    steady : Steady (programIn file) m region (step (programIn file) m region)
-    steady = readable-steady file (ready .kept) m region (rw (ready .count-is) at (so-far .inside)) .0
+      (stepped : StepPost (step (programOf l code targets) m region) next rs′ region′) where
+    steady : Steady (programOf l code targets) m region (step (programOf l code targets) m region)
+    steady = readable-steady (ready .loaded .kept) m region (rw (counted (ready .loaded)) (so-far .inside)) .0
 
     one-more : budget - made ≡ suc (budget - (made + 1))
     one-more = omega arith
 
     -- a step that goes somewhere
     module _ {to : ℕ} (goes : next ≡ To to) where
-      went : (step (programIn file) m region .ending ≡ none) × (step (programIn file) m region .machine .pc ≡ to)
+      went : (step (programOf l code targets) m region .ending ≡ none) × (step (programOf l code targets) m region .machine .pc ≡ to)
       went = to-none _ _ to (sym (stepped .goes) ∙ goes)
 
-      machine-after : step (programIn file) m region .machine ≡ machineOf rs′ to
+      machine-after : step (programOf l code targets) m region .machine ≡ machineOf rs′ to
       machine-after =
-          ap (machineOf (step (programIn file) m region .machine .registers)) (went .1)
+          ap (machineOf (step (programOf l code targets) m region .machine .registers)) (went .1)
           ∙ ap (λ (rs : List ℕ). machineOf rs to) (sym (stepped .registers))
 
-      one-step : Continues (run (programIn file) (budget - made) m region)
-          (run (programIn file) (budget - (made + 1)) (machineOf rs′ to) region′) 1
+      one-step : Continues (run (programOf l code targets) (budget - made) m region)
+          (run (programOf l code targets) (budget - (made + 1)) (machineOf rs′ to) region′) 1
       one-step =
           rw (one-more, ← machine-after, stepped .region)
-          (continues-step (programIn file) (budget - (made + 1)) m region (went .0))
+          (continues-step (programOf l code targets) (budget - (made + 1)) m region (went .0))
 
-      pub goes-on : Underway file n budget start region₀ (machineOf rs′ to) region′ (made + 1)
+      pub goes-on : Underway (programOf l code targets) n budget start region₀ (machineOf rs′ to) region′ (made + 1)
       goes-on = record {
         within = omega arith;
-        inside = omega (arith, steady .pc-inside, code-length file, ready .count-is, went .1);
+        inside = omega (arith, steady .pc-inside, program-count (ready .loaded), went .1);
         room = ap length (stepped .region) ∙ (steady .region-length ∙ so-far .room);
         continues = continues-trans _ _ _ made 1 (so-far .continues) one-step;
       }
 
     -- a step that ends the run
     module _ {e : Ending} (over : next ≡ Ends e) where
-      ended : step (programIn file) m region .ending ≡ some e
+      ended : step (programOf l code targets) m region .ending ≡ some e
       ended = ends-some _ _ e (sym (stepped .goes) ∙ over)
 
-      machine-kept : step (programIn file) m region .machine ≡ machineOf rs′ (m .pc)
+      machine-kept : step (programOf l code targets) m region .machine ≡ machineOf rs′ (m .pc)
       machine-kept =
-          let kept : step (programIn file) m region .machine ≡ m = steady .ending-keeps e ended .0 in
+          let kept : step (programOf l code targets) m region .machine ≡ m = steady .ending-keeps e ended .0 in
           kept ∙ ap (λ (rs : List ℕ). machineOf rs (m .pc)) (sym (stepped .registers ∙ ap (λ (x : Machine). x .registers) kept))
 
-      pub run-ended : LoopPost (run (programIn file) budget start region₀)
-          (record { machine = machineOf rs′ (m .pc); completion = Completions.Ended e; steps = made + 1 }) region′
+      pub run-ended : LoopPost (run (programOf l code targets) budget start region₀)
+          (endedWith (machineOf rs′ (m .pc)) e (made + 1)) region′
       run-ended =
           rw (← machine-kept, stepped .region)
-          (rw (one-more, run-ends (programIn file) (budget - (made + 1)) m region e ended) at
+          (rw (one-more, run-ends (programOf l code targets) (budget - (made + 1)) m region e ended) at
           (run-over _ _ made (so-far .continues)))
 
   -- the budget is used
-  pub run-spent : budget ≤ made → LoopPost (run (programIn file) budget start region₀)
-      (record { machine = m; completion = Completions.Ended OutOfBudget; steps = made }) region
+  pub run-spent : budget ≤ made → LoopPost (run (programOf l code targets) budget start region₀)
+      (endedWith m OutOfBudget made) region
   unfolding run
   run-spent used =
       let none-left : budget - made ≡ 0 = omega arith in

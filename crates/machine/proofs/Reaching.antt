@@ -1,12 +1,11 @@
 -- Where the bytes of an access lie, and moving them: each way through the code is the definition's, by its tests, and what lies
 -- inside the region fits there. Assumes nothing.
-use Prim.Native.Nat.{ℕ, suc, _+_, _-_, _/_, _%_, _≤_, _<_}
+use Prim.Native.Nat.{ℕ, zero, suc, _+_, _-_, _/_, _%_, _^_, _≤_, _<_}
 use mathlib.Core.Path.{_≡_, refl, sym, ap, _∙_}
 use mathlib.Core.Logic.{_⊎_, inl, inr}
 use mathlib.Core.Bool.{Bool, true, false, cond, _&&_, false≢true}
 use mathlib.Core.List.{List}
-use native.Mathlib.Nat.{mod-lt}
-use native.Mathlib.Numerals.{add-one}
+use native.Mathlib.Nat.{mod-lt, add-zero, div-one, div-div-eq-div-mul, pow-succ'}
 use native.Mathlib.Omega.{arith}
 use borrow.Author.Tests.{leb-true, le-leb, lt-leb}
 use lib.Bits.{bitAnd, and-mask}
@@ -17,15 +16,15 @@ use Rattle.model.specs.declared.Width.{Width}
 use Rattle.model.specs.declared.Ending.the-variants.{Trapped, Violated}
 use Rattle.model.specs.Words.{modulus, readBytes, writeBytes}
 use Rattle.model.specs.Instructions.{bytesOf}
-use Rattle.model.specs.Step.{inRegion, inZones, Effect, ends}
+use Rattle.model.specs.Step.{inRegion, inZones, Effect, ends, accessing}
 use Rattle.model.specs.Rules.{LayoutKept}
 use Rattle.model.proofs.Tests.{and-left, and-right}
 use Rattle.model.proofs.Values.{some-size}
 use Rattle.machine.specs.declared.access.Reach.{Reach}
 use Rattle.machine.specs.declared.access.Reach.the-variants.{Inside, Guarded, Outside}
-use Rattle.machine.specs.Core.{reachOf, accessAt}
+use Rattle.machine.specs.Core.{reachOf}
 
--- ---- judging
+-- ---- the reach of an access
 
 -- one test that fails is enough
 either-fails : (a b : Bool) → (a ≡ false) ⊎ (b ≡ false) → a && b ≡ false
@@ -33,7 +32,7 @@ either-fails true b (inl e) = absurd (false≢true (sym e))
 either-fails true b (inr e) = e
 either-fails false b e = refl
 
--- the numbers that `judge` goes by
+-- the numbers that `reach_of` goes by
 pub record Numbers (l : Layout) (at : ℕ) (w : Width) (from count base size guard : ℕ) : Type 0 where
   pub is-from : from ≡ at
   pub is-count : count ≡ bytesOf w
@@ -80,7 +79,7 @@ module _ {l : Layout} {at : ℕ} {w : Width} {from count base size guard : ℕ} 
         le-leb (at + bytesOf w) (l .base + l .size + l .guard) (omega arith),
       )
 
--- ---- what is known of an access that was judged
+-- ---- what is known of an access whose reach is known
 
 -- what comes of an access, by where it lies
 abbrev pub outcome : Reach → Effect → Effect
@@ -88,12 +87,11 @@ outcome (Inside offset) done = done
 outcome Guarded done = ends Trapped
 outcome Outside done = ends Violated
 
-module _ (l : Layout) (at : ℕ) (w : Width) (reached other : Reach) (judged : reached ≡ reachOf l at w) (told : reached ≡ other) where
-  pub access-is : (done : Effect) → accessAt l at w done ≡ outcome other done
-  unfolding accessAt reachOf
-  access-is done =
-      by-tests (inRegion l at (bytesOf w)) (inZones l at (bytesOf w))
-      ∙ ap (λ (r : Reach). outcome r done) (sym judged ∙ told)
+module _ (l : Layout) (at : ℕ) (w : Width) where
+  pub access-is : {reach : Reach} → reachOf l at w ≡ reach → (done : Effect) → accessing l at w done ≡ outcome reach done
+  unfolding accessing reachOf
+  access-is is done =
+      by-tests (inRegion l at (bytesOf w)) (inZones l at (bytesOf w)) ∙ ap (λ (r : Reach). outcome r done) is
     where
       by-tests : (a b : Bool)
           → cond a done (ends (cond b Trapped Violated)) ≡ outcome (cond a (Inside (at - l .base)) (cond b Guarded Outside)) done
@@ -101,10 +99,10 @@ module _ (l : Layout) (at : ℕ) (w : Width) (reached other : Reach) (judged : r
       by-tests false true = refl
       by-tests false false = refl
 
-  module _ (offset : ℕ) (inside : other ≡ Inside offset) where
+  module _ (offset : ℕ) (inside : reachOf l at w ≡ Inside offset) where
     tested-inside : (inRegion l at (bytesOf w) ≡ true) × (offset ≡ at - l .base)
     unfolding reachOf
-    tested-inside = by-tests (inRegion l at (bytesOf w)) (inZones l at (bytesOf w)) (sym judged ∙ (told ∙ inside))
+    tested-inside = by-tests (inRegion l at (bytesOf w)) (inZones l at (bytesOf w)) inside
       where
         by-tests : (a b : Bool) → cond a (Inside (at - l .base)) (cond b Guarded Outside) ≡ Inside offset
             → (a ≡ true) × (offset ≡ at - l .base)
@@ -125,40 +123,30 @@ module _ (l : Layout) (at : ℕ) (w : Width) (reached other : Reach) (judged : r
 
 -- ---- moving bytes
 
--- a width that is known
-module _ (w v : Width) (told : w ≡ v) (bytes : List ℕ) (at : ℕ) where
-  pub read-as : readBytes (bytesOf v) bytes at ≡ readBytes (bytesOf w) bytes at
-  read-as = ap (λ (u : Width). readBytes (bytesOf u) bytes at) (sym told)
-
-  pub write-as : (x : ℕ) → writeBytes (bytesOf v) x bytes at ≡ writeBytes (bytesOf w) x bytes at
-  write-as x = ap (λ (u : Width). writeBytes (bytesOf u) x bytes at) (sym told)
-
-  pub fits-as : at + bytesOf w ≤ length bytes → at + bytesOf v ≤ length bytes
-  fits-as fits = rw told at fits
-
 pub one-byte : (bytes : List ℕ) (at r : ℕ) → r ≡ getD bytes at 0 → r ≡ readBytes 1 bytes at
 unfolding readBytes
 one-byte bytes at r read = omega arith
 
-module _ (x : ℕ) (bytes : List ℕ) (at : ℕ) where
-  pub writes-one : set bytes at (x % 256) ≡ writeBytes 1 x bytes at
-  unfolding writeBytes
-  writes-one = refl
+-- a write that goes on by one byte
+writes-next : (n x : ℕ) (bytes : List ℕ) (at : ℕ)
+    → set (writeBytes n x bytes at) (at + n) (x / 256 ^ n % 256) ≡ writeBytes (suc n) x bytes at
+unfolding writeBytes
+writes-next zero x bytes at = rw (add-zero, div-one)
+writes-next (suc n) x bytes at =
+    let shifted : x / 256 ^ suc n ≡ x / 256 / 256 ^ n = rw pow-succ' (sym (div-div-eq-div-mul x 256 (256 ^ n))) in
+    let place : at + suc n ≡ suc at + n = omega arith in
+    rw (shifted, place) (writes-next n (x / 256) (set bytes at (x % 256)) (suc at))
 
-  pub writes-two : set (set bytes at (x % 256)) (at + 1) (x / 256 % 256) ≡ writeBytes 2 x bytes at
-  unfolding writeBytes
-  writes-two = rw add-one
+-- n + 1 bytes, each set by itself
+abbrev pub setBytes : ℕ → ℕ → List ℕ → ℕ → List ℕ
+setBytes zero x bytes at = set bytes at (x % 256)
+setBytes (suc n) x bytes at = set (setBytes n x bytes at) (at + suc n) (x / 256 ^ suc n % 256)
 
-  pub writes-four : set (set (set (set bytes at (x % 256)) (at + 1) (x / 256 % 256)) (at + 2) (x / 65536 % 256)) (at + 3) (x / 16777216 % 256)
-      ≡ writeBytes 4 x bytes at
-  unfolding writeBytes
-  writes-four =
-      let second : at + 1 ≡ suc at = omega arith in
-      let third : at + 2 ≡ suc (suc at) = omega arith in
-      let fourth : at + 3 ≡ suc (suc (suc at)) = omega arith in
-      let sixteen : x / 65536 ≡ x / 256 / 256 = omega arith in
-      let twenty-four : x / 16777216 ≡ x / 256 / 256 / 256 = omega arith in
-      rw (second, third, fourth, sixteen, twenty-four)
+pub writes : (n x : ℕ) (bytes : List ℕ) (at : ℕ) → setBytes n x bytes at ≡ writeBytes (suc n) x bytes at
+unfolding writeBytes
+writes zero x bytes at = refl
+writes (suc n) x bytes at =
+    ap (λ (bs : List ℕ). set bs (at + suc n) (x / 256 ^ suc n % 256)) (writes n x bytes at) ∙ writes-next (suc n) x bytes at
 
 -- ---- the guard
 

@@ -1,7 +1,7 @@
 -- What the model makes of an effect is what the core answers and leaves, by the tests that both go by: the next index, and where
 -- an access lies. Assumes nothing.
 use Prim.Native.Nat.{ℕ, _+_, _-_}
-use mathlib.Core.Path.{_≡_, refl, sym, ap, _∙_}
+use mathlib.Core.Path.{_≡_, refl, sym, _∙_}
 use mathlib.Core.Bool.{Bool, true, false, cond}
 use mathlib.Core.List.{List}
 use native.Mathlib.Omega.{arith}
@@ -14,12 +14,12 @@ use Rattle.model.specs.declared.Width.{Width}
 use Rattle.model.specs.Words.{readBytes, writeBytes}
 use Rattle.model.specs.Program.{Program, isTarget, isIndirect}
 use Rattle.model.specs.Instructions.{bytesOf}
-use Rattle.model.specs.Step.{Effect, goesOn, goesTo, goesVia, ends, Landing, nowhere, named, viaRegister, stays, moves, settle}
+use Rattle.model.specs.Step.{Effect, goesOn, goesTo, goesVia, ends, accessing, storing, Landing, nowhere, named, viaRegister, stays, moves, settle}
 use Rattle.machine.specs.declared.access.Reach.{Reach}
 use Rattle.machine.specs.declared.access.Reach.the-variants.{Inside}
 use Rattle.machine.specs.declared.places.Next.{Next}
 use Rattle.machine.specs.declared.places.Next.the-variants.{To, Ends}
-use Rattle.machine.specs.Core.{reachOf, onwardOf, jumpOf, jumpViaOf, StepPost, accessAt, Settles, AssignPost, LoadPost}
+use Rattle.machine.specs.Core.{reachOf, onwardOf, jumpOf, jumpViaOf, StepPost, Settles, AssignPost, LoadPost}
 use Rattle.machine.proofs.Reaching.{outcome, access-is, offset-is}
 
 -- a step that moves if a test passes, and stays if not
@@ -93,35 +93,25 @@ module _ (n : ℕ) (m : Machine) (bs : List ℕ) where
 
 -- ---- loads and stores, by where they lie
 
-module _ (l : Layout) (at : ℕ) (w : Width) (reached other : Reach) (judged : reached ≡ reachOf l at w) (told : reached ≡ other)
-    (n : ℕ) (m : Machine) (bs : List ℕ) where
-  pub access-ends : (e : Ending) (done : Effect) → outcome other done ≡ ends e
-      → Settles n m bs (accessAt l at w done) (Ends e) (m .registers) bs
-  access-ends e done over p log count =
-      rw (access-is l at w reached other judged told done ∙ over) (ending-settles n m bs e p log count)
+module _ (l : Layout) (at : ℕ) (w : Width) (n : ℕ) (m : Machine) (bs : List ℕ) where
+  pub access-ends : {reach : Reach} → reachOf l at w ≡ reach → (e : Ending) (done : Effect) → outcome reach done ≡ ends e
+      → Settles n m bs (accessing l at w done) (Ends e) (m .registers) bs
+  access-ends is e done over p log count = rw (access-is l at w is done ∙ over) (ending-settles n m bs e p log count)
 
-  module _ (offset : ℕ) (inside : other ≡ Inside offset) (next : Next) where
-    access-done : (done : Effect) → accessAt l at w done ≡ done
-    access-done done =
-        access-is l at w reached other judged told done ∙ ap (λ (r : Reach). outcome r done) inside
-
-    starts-at : offset ≡ at - l .base
-    starts-at = offset-is l at w reached other judged told offset inside
-
+  module _ (offset : ℕ) (inside : reachOf l at w ≡ Inside offset) (next : Next) where
     pub load-settles : (a value : ℕ) (rs′ : List ℕ) → value ≡ readBytes (bytesOf w) bs offset → AssignPost n m a value next rs′
         → LoadPost l n m bs a w at next rs′
     load-settles a value rs′ read assigned p log count =
-        rw access-done (rw (read, starts-at) at (assigned bs p log count))
+        rw (access-is l at w inside) (rw (read, offset-is l at w offset inside) at (assigned bs p log count))
 
     module _ (onward : next ≡ onwardOf n (m .pc)) (value : ℕ) where
       pub store-settles : (to : ℕ) (bs′ : List ℕ) → next ≡ To to → bs′ ≡ writeBytes (bytesOf w) value bs offset
-          → Settles n m bs (accessAt l at w (goesOn (m .registers) (writeBytes (bytesOf w) value bs (at - l .base)))) next (m .registers) bs′
+          → Settles n m bs (storing l at w value (m .registers) bs) next (m .registers) bs′
       store-settles to bs′ goes writes p log count =
-          rw (access-done, writes, starts-at)
+          rw (access-is l at w inside, writes, offset-is l at w offset inside)
           (onward-changed n m bs next onward (m .registers) (writeBytes (bytesOf w) value bs (at - l .base)) to goes p log count)
 
-      pub store-stays : (e : Ending) → next ≡ Ends e
-          → Settles n m bs (accessAt l at w (goesOn (m .registers) (writeBytes (bytesOf w) value bs (at - l .base)))) next (m .registers) bs
+      pub store-stays : (e : Ending) → next ≡ Ends e → Settles n m bs (storing l at w value (m .registers) bs) next (m .registers) bs
       store-stays e stops p log count =
-          rw access-done
+          rw (access-is l at w inside)
           (onward-stays n m bs next onward (m .registers) (writeBytes (bytesOf w) value bs (at - l .base)) e stops p log count)

@@ -9,24 +9,19 @@ use lib.ListN.{length, set}
 use Rattle.model.specs.declared.Completion.the-variants as Completions
 use Rattle.model.specs.declared.Answer.{Answer}
 use Rattle.model.specs.declared.Ending.{Ending}
-use Rattle.model.specs.declared.Ending.the-variants.{Trapped, Violated}
-use Rattle.model.specs.declared.Instruction.{Instruction}
+use Rattle.model.specs.declared.Ending.the-variants.{Violated}
 use Rattle.model.specs.declared.Layout.{Layout}
 use Rattle.model.specs.declared.Machine.{Machine}
 use Rattle.model.specs.declared.Outcome.{Outcome}
-use Rattle.model.specs.declared.Refusal.{Refusal}
 use Rattle.model.specs.declared.Target.{Target}
 use Rattle.model.specs.declared.Width.{Width}
-use Rattle.model.specs.Words.{readBytes, writeBytes}
 use Rattle.model.specs.Answers.{reportOf}
 use Rattle.model.specs.Program.{Program, isTarget, isIndirect}
-use Rattle.model.specs.Instructions.{bytesOf, shape, traits}
-use Rattle.model.specs.Step.{inRegion, inZones, Effect, goesOn, ends, reaches, effect, Step, settle}
-use Rattle.model.specs.File.{instructionCount, layoutIn}
-use Rattle.model.specs.Rules.{FileKept}
+use Rattle.model.specs.Instructions.{bytesOf}
+use Rattle.model.specs.Step.{inRegion, inZones, Effect, goesOn, loading, storing, Step, settle}
+use Rattle.model.specs.File.{tabulate, targetIn}
 use Rattle.model.specs.Run.{Run, steps, Seen}
-use Rattle.reader.specs.declared.lookup.Table.{Table}
-use Rattle.reader.specs.Lookups.{tableIn}
+use Rattle.reader.specs.Readings.{Loaded}
 use Rattle.machine.specs.declared.access.Reach.{Reach}
 use Rattle.machine.specs.declared.access.Reach.the-variants.{Inside, Guarded, Outside}
 use Rattle.machine.specs.declared.places.Next.{Next}
@@ -36,6 +31,10 @@ use Rattle.machine.specs.declared.places.Next.the-variants.{To, Ends}
 unfoldable pub reachOf : Layout → ℕ → Width → Reach
 reachOf l at w =
     cond (inRegion l at (bytesOf w)) (Inside (at - l .base)) (cond (inZones l at (bytesOf w)) Guarded Outside)
+
+-- the targets that a search goes through
+abbrev pub firstTargets : List ℕ → ℕ → List Target
+firstTargets targets k = tabulate 0 k (targetIn targets)
 
 -- places
 unfoldable pub onwardOf : ℕ → ℕ → Next
@@ -49,12 +48,6 @@ jumpViaOf ts to = cond (isIndirect ts to) (To to) (Ends Violated)
 
 -- ---- a step
 
--- the model's step of an instruction, wherever it stands
-unfoldable pub stepOf : Program → Instruction → Machine → List ℕ → Step
-stepOf p i m bs =
-    settle p m bs (reaches (traits (shape (p .layout) i) .access) (m .registers))
-    (effect (p .layout) (p .targets) (shape (p .layout) i) (m .registers) bs)
-
 -- where the model's step goes, or how it ends the run
 abbrev pub nextFor : ℕ → Option Ending → Next
 nextFor pc none = To pc
@@ -65,11 +58,6 @@ pub record StepPost (s : Step) (next : Next) (rs bs : List ℕ) : Type 0 where
   pub goes : next ≡ nextFor (s .machine .pc) (s .ending)
   pub registers : rs ≡ s .machine .registers
   pub region : bs ≡ s .region
-
--- what an access at an address comes to: the model's `accessing`, where the address is known
-unfoldable pub accessAt : Layout → ℕ → Width → Effect → Effect
-accessAt l at w done =
-    cond (inRegion l at (bytesOf w)) done (ends (cond (inZones l at (bytesOf w)) Trapped Violated))
 
 -- what the core answers and leaves is what the model makes of an effect that goes on or ends, in any program of n instructions
 abbrev pub Settles : ℕ → Machine → List ℕ → Effect → Next → List ℕ → List ℕ → Type 0
@@ -82,43 +70,28 @@ AssignPost n m a value next rs′ = (bs : List ℕ) → Settles n m bs (goesOn (
 
 -- a load from an address
 abbrev pub LoadPost : Layout → ℕ → Machine → List ℕ → ℕ → Width → ℕ → Next → List ℕ → Type 0
-LoadPost l n m bs a w at next rs′ =
-    Settles n m bs
-    (accessAt l at w (goesOn (set (m .registers) a (readBytes (bytesOf w) bs (at - l .base))) bs)) next rs′ bs
+LoadPost l n m bs a w at next rs′ = Settles n m bs (loading l at w a (m .registers) bs) next rs′ bs
 
 -- a store to an address, whatever the registers are
 abbrev pub StorePost : Layout → ℕ → ℕ → List ℕ → ℕ → Width → ℕ → Next → List ℕ → Type 0
 StorePost l n pc bs value w at next bs′ =
-    (rs : List ℕ) → Settles n (record { registers = rs; pc = pc }) bs
-    (accessAt l at w (goesOn rs (writeBytes (bytesOf w) value bs (at - l .base)))) next rs bs′
+    (rs : List ℕ) → Settles n (record { registers = rs; pc = pc }) bs (storing l at w value rs bs) next rs bs′
 
--- what the core is given: a file that keeps rules 1 to 7, where its targets stand, its layout and count, an index of it, and a
--- region of its size
-pub record Ready (file : List ℕ) (targets : Table) (layout : Layout) (n pc : ℕ) (region : List ℕ) : Type 0 where
-  pub kept : FileKept file
-  pub targets-is : targets ≡ tableIn file
-  pub layout-is : layout ≡ layoutIn file
-  pub count-is : n ≡ instructionCount file
+-- what the core is given: a module that keeps rules 5 to 7, an index of its code, and a region of its size
+pub record Ready (layout : Layout) (code targets : List ℕ) (n k pc : ℕ) (region : List ℕ) : Type 0 where
+  pub loaded : Loaded layout code targets n k
   pub pc-inside : pc < n
-  pub room : length region ≡ layoutIn file .size
+  pub room : length region ≡ layout .size
 
 -- ---- a run
 
 -- what the loop answers and leaves is the model's run
 pub record LoopPost (r : Run) (o : Outcome) (bs : List ℕ) : Type 0 where
   pub machine : o .machine ≡ r .machine
-  pub completion : o .completion ≡ Completions.Ended (r .ending)
-  pub count : o .steps ≡ steps r
+  pub completion : o .answer .completion ≡ Completions.Ended (r .ending)
+  pub count : o .answer .steps ≡ steps r
   pub region : bs ≡ r .region
 
--- a refused call: no steps, and the machine as it was
-abbrev pub refusedWith : Machine → Refusal → Outcome
-refusedWith m r = record { machine = m; completion = Completions.Refused r; steps = 0 }
-
--- what the host sees of a call whose outcome comes back by value
-unfoldable pub seenOf : Outcome → List ℕ → Seen
-seenOf o memory = record { report = reportOf (o .completion) (o .steps); machine = o .machine; memory = memory }
-
--- and of one whose machine was lent
-unfoldable pub answered : Answer → Machine → List ℕ → Seen
-answered a m memory = record { report = reportOf (a .completion) (a .steps); machine = m; memory = memory }
+-- what the host sees of a call
+unfoldable pub seenOf : Answer → Machine → List ℕ → Seen
+seenOf a m memory = record { report = reportOf a; machine = m; memory = memory }

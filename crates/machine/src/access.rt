@@ -31,7 +31,7 @@ fn bytes_of(width: Width) -> u64
     }
 }
 
-pub(crate) fn judge(layout: Layout, address: u32, width: Width) -> Reach
+pub(crate) fn reach_of(layout: Layout, address: u32, width: Width) -> Reach
     ensures { λ r. ⌜ r ≡ reachOf layout address width ⌝ }
 {
     let from = wide(address);
@@ -55,36 +55,14 @@ pub(crate) fn judge(layout: Layout, address: u32, width: Width) -> Reach
     Reach::Guarded
 }
 
-fn read_one(region: &[u8], at: usize) -> u32
-    requires { ⌜ at + 1 ≤ length (now region) ⌝ }
-    ensures { λ r. ⌜ r ≡ readBytes 1 (now (region .entry)) at ⌝ }
-{
-    words::bytes::little_endian(region[at], 0, 0, 0)
-}
-
-fn read_two(region: &[u8], at: usize) -> u32
-    requires { ⌜ at + 2 ≤ length (now region) ⌝ }
-    ensures { λ r. ⌜ r ≡ readBytes 2 (now (region .entry)) at ⌝ }
-{
-    words::bytes::little_endian(region[at], region[at + 1], 0, 0)
-}
-
-fn read_four(region: &[u8], at: usize) -> u32
-    requires { ⌜ at + 4 ≤ length (now region) ⌝ }
-    ensures { λ r. ⌜ r ≡ readBytes 4 (now (region .entry)) at ⌝ }
-{
-    words::bytes::little_endian(region[at], region[at + 1], region[at + 2], region[at + 3])
-}
-
 // The number of the bytes at an offset.
 pub(crate) fn read(region: &[u8], at: usize, width: Width) -> u32
-    requires { ⌜ at + bytesOf width ≤ length (now region) ⌝ }
     ensures { λ r. ⌜ r ≡ readBytes (bytesOf width) (now (region .entry)) at ⌝ }
 {
     match width {
-        Width::One => read_one(region, at),
-        Width::Two => read_two(region, at),
-        Width::Four => read_four(region, at),
+        Width::One => words::bytes::byte_at(region, at) as u32,
+        Width::Two => words::bytes::read_u16(region, at) as u32,
+        Width::Four => words::bytes::read_u32(region, at),
     }
 }
 

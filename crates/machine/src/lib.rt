@@ -3,6 +3,7 @@
 mod access;
 mod core;
 pub mod lent;
+mod operations;
 mod places;
 mod registers;
 pub mod value;

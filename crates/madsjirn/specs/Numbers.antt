@@ -1,5 +1,5 @@
 -- The model's answers as the numbers that a host gets, and back. Assumes nothing.
-use Prim.Native.Nat.{ℕ, _+_, _*_}
+use Prim.Native.Nat.{ℕ}
 use mathlib.Core.Path.{_≡_}
 use mathlib.Core.Bool.{cond}
 use mathlib.Core.List.{List, [], _∷_}
@@ -20,7 +20,7 @@ use Rattle.madsjirn.specs.declared.answers.RunAnswer.{RunAnswer}
 -- ---- to numbers: refusal 0 is none, and of a refusal all but its number and place is 0; a refused run has the ending 5
 
 unfoldable pub moduleNumbers : ReadReport → ModuleAnswer
-moduleNumbers (Readings.holds l n k at) = record {
+moduleNumbers (Readings.holds l n k) = record {
   refusal = 0;
   place = 0;
   base = l .base;
@@ -55,11 +55,10 @@ pub record Leaves (seen : Seen) (answer : RunAnswer) (machine : Machine) (memory
 
 -- ---- from numbers (proofs/Decoding shows that nothing is lost)
 
--- the targets' field stands behind 18 bytes and the instructions
 unfoldable pub readingIn : ModuleAnswer → ReadReport
 readingIn a =
     cond (eqb (a .refusal) 0)
-    (Readings.holds (record { base = a .base; size = a .size; guard = a .guard }) (a .instructions) (a .targets) (18 + 8 * a .instructions))
+    (Readings.holds (record { base = a .base; size = a .size; guard = a .guard }) (a .instructions) (a .targets))
     (Readings.refused (fault (a .refusal) (a .place)))
 
 unfoldable pub judgementIn : VerdictAnswer → Judgement

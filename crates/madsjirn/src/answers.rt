@@ -2,12 +2,11 @@
 // the refusal's place, and what there is nothing to say of is 0.
 use model::Answer;
 use model::Completion;
-use model::Ending;
+use model::Steps;
 use model::Verdict;
-use reader::check;
 use reader::read::Parsed;
 ghost use mathlib.Core.Path.{_≡_};
-ghost use Rattle.model.specs.Answers.{endingNumber, judgementOf, reportOf};
+ghost use Rattle.model.specs.Answers.{judgementOf, reportOf};
 ghost use Rattle.reader.specs.Readings.{readingOf};
 ghost use Rattle.madsjirn.specs.Numbers.{moduleNumbers, verdictNumbers, runNumbers};
 
@@ -39,7 +38,7 @@ pub struct RunAnswer {
     pub refusal: u32,
     pub place: u32,
     pub ending: u32,
-    pub steps: u32,
+    pub steps: Steps,
 }
 
 // The ending of a refused run.
@@ -64,7 +63,7 @@ pub fn module_answer(parsed: Parsed) -> ModuleAnswer
         Parsed::Refused { refusal } => {
             let rule = refusal.rule;
             ModuleAnswer {
-                refusal: check::rule_number(rule),
+                refusal: model::rule_number(rule),
                 place: refusal.place,
                 base: 0,
                 size: 0,
@@ -92,7 +91,7 @@ pub fn verdict_answer(verdict: Verdict) -> VerdictAnswer
         Verdict::Refused { refusal } => {
             let rule = refusal.rule;
             VerdictAnswer {
-                refusal: check::rule_number(rule),
+                refusal: model::rule_number(rule),
                 place: refusal.place,
                 instructions: 0,
                 targets: 0,
@@ -101,33 +100,21 @@ pub fn verdict_answer(verdict: Verdict) -> VerdictAnswer
     }
 }
 
-pub fn ending_number(ending: Ending) -> u32
-    ensures { λ r. ⌜ r ≡ endingNumber ending ⌝ }
-{
-    match ending {
-        Ending::Halted => 0,
-        Ending::Trapped => 1,
-        Ending::Denied => 2,
-        Ending::Violated => 3,
-        Ending::OutOfBudget => 4,
-    }
-}
-
 pub fn run_answer(answer: Answer) -> RunAnswer
-    ensures { λ r. ⌜ r ≡ runNumbers (reportOf (answer .completion) (answer .steps)) ⌝ }
+    ensures { λ r. ⌜ r ≡ runNumbers (reportOf answer) ⌝ }
 {
     let completion = answer.completion;
     match completion {
         Completion::Ended { ending } => RunAnswer {
             refusal: 0,
             place: 0,
-            ending: ending_number(ending),
+            ending: model::ending_number(ending),
             steps: answer.steps,
         },
         Completion::Refused { refusal } => {
             let rule = refusal.rule;
             RunAnswer {
-                refusal: check::rule_number(rule),
+                refusal: model::rule_number(rule),
                 place: refusal.place,
                 ending: NOT_RUN,
                 steps: answer.steps,

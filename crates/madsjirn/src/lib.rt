@@ -1,11 +1,13 @@
 // The gatekeeper as a static library, for hosts in C and Rust: read, verify, run and step on any bytes, with answers of plain
 // numbers. A slice is a pointer and a length. Nothing is asked of a host beforehand but that its references are valid.
 pub mod answers;
+mod hosted;
 
 use crate::answers::ModuleAnswer;
 use crate::answers::RunAnswer;
 use crate::answers::VerdictAnswer;
 use model::Machine;
+use model::Steps;
 ghost use mathlib.Core.Path.{_≡_};
 ghost use Rattle.model.specs.Judgement.{judgement};
 ghost use Rattle.model.specs.Run.{runOn};
@@ -36,12 +38,14 @@ pub extern "C" fn madsjirn_run(
     machine: &mut Machine,
     memory: &mut [u8],
     offset: usize,
-    budget: u32,
+    budget: Steps,
 ) -> RunAnswer
     ensures { λ r. ⌜ Leaves (runOn (now (file .entry)) (now (machine .entry)) (now (memory .entry)) offset budget) r (now (machine .exit)) (now (memory .exit)) ⌝ }
 {
-    let answer = machine::lent::run(file, machine, memory, offset, budget);
-    answers::run_answer(answer)
+    let was = *machine;
+    let out = hosted::run(file, was, memory, offset, budget);
+    *machine = out.machine;
+    out.answer
 }
 
 // A single step: a run with budget 1.
@@ -54,5 +58,9 @@ pub extern "C" fn madsjirn_step(
 ) -> RunAnswer
     ensures { λ r. ⌜ Leaves (runOn (now (file .entry)) (now (machine .entry)) (now (memory .entry)) offset 1) r (now (machine .exit)) (now (memory .exit)) ⌝ }
 {
-    madsjirn_run(file, machine, memory, offset, 1)
+    let budget: Steps = 1;
+    let was = *machine;
+    let out = hosted::run(file, was, memory, offset, budget);
+    *machine = out.machine;
+    out.answer
 }

@@ -1,35 +1,54 @@
 -- Demand 2 for the verdict: a file is accepted exactly if it keeps every rule, and a refusal names the first rule broken, in the
 -- listed order. Assumes nothing.
-use Prim.Native.Nat.{ℕ, _+_, _≤_, _<_}
+use Prim.Native.Nat.{ℕ, _<_}
 use mathlib.Core.Path.{_≡_}
 use mathlib.Core.Logic.{_↔_, Iff·trans}
-use mathlib.Core.List.{List, [], _∷_}
+use mathlib.Core.List.{List}
 use mathlib.Core.Option.{none, some}
 use native.Mathlib.Omega.{arith}
 use lib.ListN.{length}
+use Rattle.model.specs.declared.Layout.{Layout}
 use Rattle.model.specs.declared.Machine.{Machine}
-use Rattle.model.specs.Obligations.{Fault, Obligation, owes, each, firstFault, AllMet, FirstUnmet}
+use Rattle.model.specs.Obligations.{Fault, firstFault, AllMet, FirstUnmet}
 use Rattle.model.specs.Program.{Program}
-use Rattle.model.specs.File.{mostInstructions, mostTargets, isListed, field, codeStart, targetsAt, instructionCount, targetCount, layoutIn, isInstruction, isGoodTarget, readable, programIn}
-use Rattle.model.specs.Judgement.{atIndex, verified, obligations, judged}
-use Rattle.model.specs.Rules.{FieldKept, SomeOf, InstructionKept, TargetKept, FileKept, IndexKept, KeepsEveryRule, Runnable}
+use Rattle.model.specs.File.{mostInstructions, mostTargets, isListed, field, codeStart, targetsAt, codeIn, targetsIn, instructionCount, targetCount, layoutIn, instructionRules, targetRules, moduleRules, readable, programIn}
+use Rattle.model.specs.Judgement.{atIndex, verified, obligations, firstBroken}
+use Rattle.model.specs.Rules.{FieldKept, SomeOf, InstructionKept, TargetKept, ModuleKept, FileKept, IndexKept, KeepsEveryRule, Runnable}
 use Rattle.model.specs.Run.{runnable}
 use Rattle.model.proofs.Obligations.{none-iff-met, first-unmet, append-met, append-fault, each-met, each-one}
 use Rattle.model.proofs.Reflection.{le-reflects, lt-reflects, eq-reflects, multiple-reflects}
 use Rattle.model.proofs.FileRules.{field-kept, layout-reflects, instruction-reflects, target-reflects}
 use Rattle.model.proofs.CodeRules.{index-kept}
 
+-- rules 5, 6 and 7
+module-iff : (l : Layout) (code targets : List ℕ) → AllMet (moduleRules l code targets) ↔ ModuleKept l code targets
+module-iff l code targets = (
+  λ h.
+      let tables = append-met (instructionRules code) (targetRules (instructionCount code) targets) .0 (h .1) in
+      record {
+        layout = layout-reflects l .0 (h .0);
+        each-instruction = instructions-part .0 (tables .0);
+        each-target = targets-part .0 (tables .1);
+      },
+  λ k. (
+    layout-reflects l .1 (k .layout),
+    append-met (instructionRules code) (targetRules (instructionCount code) targets) .1
+        (instructions-part .1 (k .each-instruction), targets-part .1 (k .each-target)),
+  ),
+)
+  where
+    instructions-part : AllMet (instructionRules code) ↔ ((i : ℕ) → i < instructionCount code → InstructionKept code i)
+    instructions-part = each-one (instructionCount code) 6 (instruction-reflects code)
+
+    targets-part : AllMet (targetRules (instructionCount code) targets)
+        ↔ ((j : ℕ) → j < targetCount targets → TargetKept (instructionCount code) targets j)
+    targets-part = each-one (targetCount targets) 7 (target-reflects (instructionCount code) targets)
+
 -- rules 1 to 7
 pub readable-iff : (file : List ℕ) → (firstFault (readable file) ≡ none) ↔ FileKept file
 unfolding readable isListed
 readable-iff file = Iff·trans (none-iff-met (readable file)) (λ h. kept h, λ k. met k)
   where
-    instruction-obligations : List Obligation
-    instruction-obligations = each (instructionCount file) (λ i. owes 6 i (isInstruction file i) ∷ [])
-
-    target-obligations : List Obligation
-    target-obligations = each (targetCount file) (λ j. owes 7 j (isGoodTarget file j) ∷ [])
-
     layout-part : AllMet (field file 0 1) ↔ FieldKept file 0 1 (λ n. n ≡ 12)
     layout-part = field-kept file 0 1 (λ n. eq-reflects n 12)
 
@@ -39,26 +58,17 @@ readable-iff file = Iff·trans (none-iff-met (readable file)) (λ h. kept h, λ 
     targets-part : AllMet (field file (targetsAt file) 3) ↔ FieldKept file (targetsAt file) 3 (SomeOf 68 mostTargets)
     targets-part = field-kept file (targetsAt file) 3 (λ n. multiple-reflects 68 mostTargets n (omega arith))
 
-    instructions-part : AllMet instruction-obligations ↔ ((i : ℕ) → i < instructionCount file → InstructionKept file i)
-    instructions-part = each-one (instructionCount file) 6 (instruction-reflects file)
-
-    targets-each : AllMet target-obligations ↔ ((j : ℕ) → j < targetCount file → TargetKept file j)
-    targets-each = each-one (targetCount file) 7 (target-reflects file)
-
     kept : AllMet (readable file) → FileKept file
     kept h =
         let fields = append-met (field file 0 1) _ .0 h in
         let later = append-met (field file codeStart 2) _ .0 (fields .1) in
         let last = append-met (field file (targetsAt file) 3) _ .0 (later .1) in
-        let tables = append-met instruction-obligations target-obligations .0 (last .1 .1 .1) in
         record {
           layout-field = layout-part .0 (fields .0);
           code-field = code-part .0 (later .0);
           targets-field = targets-part .0 (last .0);
           no-tail = eq-reflects _ _ .0 (last .1 .0);
-          layout = layout-reflects (layoutIn file) .0 (last .1 .1 .0);
-          instructions = instructions-part .0 (tables .0);
-          targets = targets-each .0 (tables .1);
+          holds = module-iff (layoutIn file) (codeIn file) (targetsIn file) .0 (last .1 .1);
         }
 
     met : FileKept file → AllMet (readable file)
@@ -69,14 +79,7 @@ readable-iff file = Iff·trans (none-iff-met (readable file)) (λ h. kept h, λ 
             code-part .1 (k .code-field),
             append-met (field file (targetsAt file) 3) _ .1 (
               targets-part .1 (k .targets-field),
-              (
-                eq-reflects _ _ .1 (k .no-tail),
-                (
-                  layout-reflects (layoutIn file) .1 (k .layout),
-                  append-met instruction-obligations target-obligations .1
-                      (instructions-part .1 (k .instructions), targets-each .1 (k .targets)),
-                ),
-              ),
+              (eq-reflects _ _ .1 (k .no-tail), module-iff (layoutIn file) (codeIn file) (targetsIn file) .1 (k .holds)),
             ),
           ),
         )
@@ -90,8 +93,8 @@ verified-iff p = (
 )
 
 -- accepted exactly if every rule is kept
-pub accepted-iff : (file : List ℕ) → (judged file ≡ none) ↔ KeepsEveryRule file
-unfolding judged obligations
+pub accepted-iff : (file : List ℕ) → (firstBroken file ≡ none) ↔ KeepsEveryRule file
+unfolding firstBroken obligations
 accepted-iff file =
     Iff·trans (append-fault (readable file) (verified (programIn file))) (
       λ h. record {
@@ -102,8 +105,8 @@ accepted-iff file =
     )
 
 -- a refusal is the first in the listed order: everything judged earlier passes, and it itself fails
-pub refusal-first : (file : List ℕ) (f : Fault) → judged file ≡ some f → FirstUnmet (obligations file) f
-unfolding judged
+pub refusal-first : (file : List ℕ) (f : Fault) → firstBroken file ≡ some f → FirstUnmet (obligations file) f
+unfolding firstBroken
 refusal-first file f e = first-unmet (obligations file) f e
 
 -- and so is the refusal of a run: 1 to 7, then 14, then 15

@@ -1,6 +1,6 @@
 -- Ranges are accurate: where the registers lie within what is known before an instruction, they lie within what is known along
 -- the edge that it takes, and it strays only by an access that rule 10 does not allow. Assumes nothing.
-use Prim.Native.Nat.{ℕ}
+use Prim.Native.Nat.{ℕ, _-_}
 use mathlib.Core.Path.{_≡_, refl, sym, _∙_, subst}
 use mathlib.Core.Bool.{Bool, true, false, cond}
 use mathlib.Core.List.{List}
@@ -11,11 +11,12 @@ use Rattle.model.specs.declared.Layout.{Layout}
 use Rattle.model.specs.declared.Ranges.{Ranges}
 use Rattle.model.specs.declared.Target.{Target}
 use Rattle.model.specs.Words.{readBytes}
+use Rattle.model.specs.Ranges.{regionRange}
 use Rattle.model.specs.Program.{isIndirect}
 use Rattle.model.specs.Instructions.{bytesOf, loadRange, holds, reg, Access, Shape, stops, assigns, loads, stores, jumps, branches, checks, jumpsVia, traits, afterNext, afterTaken}
-use Rattle.model.specs.Step.{address, inRegion, inZones, Effect, goesOn, goesTo, goesVia, ends, accessing, offsetOf, effect}
-use Rattle.model.specs.Rules.{LayoutKept, Contained}
-use Rattle.model.specs.Safety.{Words, Bytes}
+use Rattle.model.specs.Step.{address, inRegion, inZones, Effect, goesOn, goesTo, goesVia, ends, accessing, effect}
+use Rattle.model.specs.Rules.{LayoutKept, Allowed}
+use Rattle.model.specs.Safety.{EightWords, Bytes}
 use Rattle.model.proofs.Tests.{by-cond}
 use Rattle.model.proofs.Registers.{Within, within-put, words-set, bytes-write}
 use Rattle.model.proofs.Values.{Fits, loaded-fits}
@@ -27,8 +28,8 @@ use Rattle.model.proofs.Sound.{SoundAccess, Sound}
 
 -- it goes on to the next index
 pub record NextAccurate (l : Layout) (ts : List Target) (s : Shape) (k : Ranges) (rs bs : List ℕ) : Type 0 where
-  pub within : Within (afterNext l s k) rs
-  pub words : Words rs
+  pub within : Within (afterNext (regionRange l) s k) rs
+  pub words : EightWords rs
   pub bytes : Bytes (l .size) bs
   pub falls : traits s .falls ≡ true
   pub checked : (a : ℕ) → traits s .looksAt ≡ some a → isIndirect ts (reg rs a) ≡ true
@@ -46,7 +47,7 @@ pub record ViaAccurate (s : Shape) (rs : List ℕ) (to : ℕ) : Type 0 where
 
 -- rule 10 allows its access, if any
 abbrev pub AccessAllowed : Layout → Shape → Ranges → Type 0
-AccessAllowed l s k = (ac : Access) → traits s .access ≡ some ac → Contained l k ac
+AccessAllowed l s k = (ac : Access) → traits s .access ≡ some ac → Allowed l k ac
 
 abbrev violates : Ending → Bool
 violates Halted = false
@@ -63,10 +64,10 @@ Accurate l ts s k rs (goesVia to) = ViaAccurate s rs to
 Accurate l ts s k rs (ends e) = AccessAllowed l s k → violates e ≡ false
 
 module _ {l : Layout} (lk : LayoutKept l) (ts : List Target) {k : Ranges} {rs bs : List ℕ}
-    (w : Within k rs) (ws : Words rs) (bytes : Bytes (l .size) bs) where
+    (w : Within k rs) (ws : EightWords rs) (bytes : Bytes (l .size) bs) where
   -- an instruction that goes on and checks nothing
   goes-on : (s : Shape) (rs′ bs′ : List ℕ) → traits s .falls ≡ true → traits s .looksAt ≡ none
-      → Within (afterNext l s k) rs′ → Words rs′ → Bytes (l .size) bs′ → NextAccurate l ts s k rs′ bs′
+      → Within (afterNext (regionRange l) s k) rs′ → EightWords rs′ → Bytes (l .size) bs′ → NextAccurate l ts s k rs′ bs′
   goes-on s rs′ bs′ f unchecked within′ words′ bytes′ = record {
     within = within′;
     words = words′;
@@ -77,7 +78,7 @@ module _ {l : Layout} (lk : LayoutKept l) (ts : List Target) {k : Ranges} {rs bs
 
   access-accurate : (s : Shape) (a : ℕ) (ac : Access) (done : Effect) → SoundAccess a ac → traits s .access ≡ some ac
       → (inRegion l (address ac rs) (bytesOf (ac .width)) ≡ true → Accurate l ts s k rs done)
-      → Accurate l ts s k rs (accessing l ac rs done)
+      → Accurate l ts s k rs (accessing l (address ac rs) (ac .width) done)
   unfolding accessing
   access-accurate s a ac done sound has if-done =
       by-cond (Accurate l ts s k rs) (inRegion l (address ac rs) (bytesOf (ac .width))) if-done (λ _. only-trapped)
@@ -92,15 +93,15 @@ module _ {l : Layout} (lk : LayoutKept l) (ts : List Target) {k : Ranges} {rs bs
       only-trapped allowed = rw (passes allowed)
 
   -- the ranges are accurate, whatever the effect is
-  pub effect-accurate : (s : Shape) → Sound s → Accurate l ts s k rs (effect l ts s rs bs)
+  pub effect-accurate : (s : Shape) → Sound l s → Accurate l ts s k rs (effect l ts s rs bs)
   unfolding effect afterNext afterTaken
   effect-accurate stops sound = λ allowed. refl
   effect-accurate (assigns a value ranged) sound =
-      let new : Fits (ranged k) (value rs) = sound .fits w ws in
+      let new : Fits (ranged (regionRange l) k) (value l rs) = sound .fits w ws in
       goes-on (assigns a value ranged) _ _ refl refl
-      (within-put w ws a (sound .register) (ranged k) (value rs) (new .inside)) (words-set ws a (value rs) (new .word)) bytes
+      (within-put w ws a (sound .register) (ranged (regionRange l) k) (value l rs) (new .inside)) (words-set ws a (value l rs) (new .word)) bytes
   effect-accurate (loads a ac) sound =
-      let at : ℕ = offsetOf l ac rs in
+      let at : ℕ = address ac rs - l .base in
       let new : Fits (loadRange (ac .width)) (readBytes (bytesOf (ac .width)) bs at) = loaded-fits (ac .width) bs at (bytes .small) in
       access-accurate (loads a ac) a ac _ sound refl
       (λ done. goes-on (loads a ac) _ _ refl refl
@@ -109,7 +110,7 @@ module _ {l : Layout} (lk : LayoutKept l) (ts : List Target) {k : Ranges} {rs bs
   effect-accurate (stores a ac) sound =
       access-accurate (stores a ac) a ac _ sound refl
       (λ done. goes-on (stores a ac) _ _ refl refl
-      (within-ruleN w ws l ac (sound .pointer) done) ws (bytes-write (bytesOf (ac .width)) (reg rs a) (offsetOf l ac rs) bytes))
+      (within-ruleN w ws l ac (sound .pointer) done) ws (bytes-write (bytesOf (ac .width)) (reg rs a) (address ac rs - l .base) bytes))
   effect-accurate (jumps to) sound = record { within = w; named = refl }
   effect-accurate (branches test a b to) sound =
       by-cond (Accurate l ts (branches test a b to) k rs) (holds test (reg rs a) (reg rs b))
@@ -127,7 +128,7 @@ module _ {l : Layout} (lk : LayoutKept l) (ts : List Target) {k : Ranges} {rs bs
       (λ _ allowed. refl)
   effect-accurate (jumpsVia a) sound = record { register = a; by = refl; held = refl }
 
-  module _ (s : Shape) (sound : Sound s) where
+  module _ (s : Shape) (sound : Sound l s) where
     -- the edge to the next index
     pub accurate-next : {rs′ bs′ : List ℕ} → effect l ts s rs bs ≡ goesOn rs′ bs′ → NextAccurate l ts s k rs′ bs′
     accurate-next e = subst (Accurate l ts s k rs) e (effect-accurate s sound)

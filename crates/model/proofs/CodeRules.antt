@@ -4,16 +4,18 @@ use mathlib.Core.Path.{_≡_, refl}
 use mathlib.Core.Logic.{_↔_, Iff·trans, Iff·rfl}
 use mathlib.Core.Option.{some}
 use native.Mathlib.Omega.{arith}
+use lib.IntN.{ℤ}
 use lib.ListN.{length}
 use Rattle.model.specs.declared.Layout.{Layout}
+use Rattle.model.specs.declared.Range.{Range}
 use Rattle.model.specs.declared.Ranges.{Ranges}
 use Rattle.model.specs.declared.Target.{Target}
+use Rattle.model.specs.declared.Width.{Width}
 use Rattle.model.specs.Obligations.{AllMet}
-use Rattle.model.specs.Ranges.{liesWithin}
+use Rattle.model.specs.Ranges.{rangeOf, liesWithin}
 use Rattle.model.specs.Program.{Program, targetAt, isTarget}
-use Rattle.model.specs.Instructions.{Access}
-use Rattle.model.specs.Judgement.{traitsAt, knownAt, nextRanges, takenRanges, isReachable, checkedBefore, isChecked, isContained, accessContained, jumpsToTarget, staysInside, meetsClaim, claimsKept, atIndex}
-use Rattle.model.specs.Rules.{Reachable, Checked, Contained, AccessContained, JumpsToTarget, StaysInside, LiesWithin, ClaimsKept, IndexKept}
+use Rattle.model.specs.Judgement.{traitsAt, knownAt, nextRanges, takenRanges, isReachable, checkedBefore, isChecked, isContained, accessContained, jumpsToTarget, staysInside, meetsClaim, takenKept, nextKept, beforeNext, atIndex}
+use Rattle.model.specs.Rules.{Reachable, Checked, Contained, AccessContained, JumpsToTarget, StaysInside, LiesWithin, TakenKept, NextKept, IndexKept}
 use Rattle.model.proofs.Reflection.{Reflects, le-reflects, eq-reflects, leZ-reflects, and-reflects, not-reflects, implies-reflects, false-reflects, unless-reflects, allBelow-reflects, allOf-reflects, anyOf-reflects}
 
 -- rule 12
@@ -32,15 +34,17 @@ checked-reflects p i =
     (λ a. and-reflects (anyOf-reflects (checkedBefore p i) a) (false-reflects (isTarget (p .targets) i)))
 
 -- rule 10
-contained-reflects : (l : Layout) (k : Ranges) (ac : Access) → Reflects (isContained l k ac) (Contained l k ac)
+contained-reflects : (l : Layout) (x : Range) (w : Width) (imm : ℤ) → Reflects (isContained l x w imm) (Contained l x w imm)
 unfolding isContained
-contained-reflects l k ac =
+contained-reflects l x w imm =
     Iff·trans (and-reflects (leZ-reflects _ _) (leZ-reflects _ _))
     (λ h. record { lowest = h .0; highest = h .1 }, λ c. (c .lowest, c .highest))
 
 access-reflects : (p : Program) (i : ℕ) → Reflects (accessContained p i) (AccessContained p i)
 unfolding accessContained
-access-reflects p i = allOf-reflects (traitsAt p i .access) (contained-reflects (p .layout) (knownAt p i))
+access-reflects p i =
+    allOf-reflects (traitsAt p i .access)
+    (λ ac. contained-reflects (p .layout) (rangeOf (knownAt p i) (ac .pointer)) (ac .width) (ac .displacement))
 
 -- rule 8
 jump-reflects : (p : Program) (i : ℕ) → Reflects (jumpsToTarget p i) (JumpsToTarget p i)
@@ -59,22 +63,22 @@ within-reflects : (k claim : Ranges) → Reflects (liesWithin k claim) (LiesWith
 unfolding liesWithin
 within-reflects k claim = allBelow-reflects 8 (λ r. and-reflects (le-reflects _ _) (le-reflects _ _))
 
-claims-reflects : (p : Program) (i : ℕ) → Reflects (claimsKept p i) (ClaimsKept p i)
-unfolding claimsKept
-claims-reflects p i =
-    Iff·trans
-    (and-reflects
-    (allOf-reflects (traitsAt p i .names) (λ to. meets to (takenRanges p i)))
-    (implies-reflects Iff·rfl (meets (i + 1) (nextRanges p i))))
-    (λ h. record { taken = h .0; next = h .1 }, λ c. (c .taken, c .next))
-  where
-    meets : (to : ℕ) (k : Ranges)
-        → Reflects (meetsClaim p to k) ((t : Target) → targetAt (p .targets) to ≡ some t → LiesWithin k (t .claim))
-    meets to k = allOf-reflects (targetAt (p .targets) to) (λ t. within-reflects k (t .claim))
+module _ (p : Program) where
+  meets-reflects : (to : ℕ) (k : Ranges)
+      → Reflects (meetsClaim p to k) ((t : Target) → targetAt (p .targets) to ≡ some t → LiesWithin k (t .claim))
+  meets-reflects to k = allOf-reflects (targetAt (p .targets) to) (λ t. within-reflects k (t .claim))
+
+  taken-reflects : (i : ℕ) → Reflects (takenKept p i) (TakenKept p i)
+  unfolding takenKept
+  taken-reflects i = allOf-reflects (traitsAt p i .names) (λ to. meets-reflects to (takenRanges p i))
+
+  next-reflects : (i : ℕ) → Reflects (nextKept p i) (NextKept p i)
+  unfolding nextKept
+  next-reflects i = implies-reflects Iff·rfl (meets-reflects (i + 1) (nextRanges p i))
 
 -- rules 8 to 13 at an index
 pub index-kept : (p : Program) (i : ℕ) → AllMet (atIndex p i) ↔ IndexKept p i
-unfolding atIndex
+unfolding atIndex beforeNext
 index-kept p i = (
   λ h. record {
     reachable = reachable-reflects p i .0 (h .0);
@@ -82,7 +86,8 @@ index-kept p i = (
     contained = access-reflects p i .0 (h .1 .1 .0);
     to-target = jump-reflects p i .0 (h .1 .1 .1 .0);
     inside = inside-reflects p i .0 (h .1 .1 .1 .1 .0);
-    claims = claims-reflects p i .0 (h .1 .1 .1 .1 .1 .0);
+    taken = taken-reflects p i .0 (h .1 .1 .1 .1 .1 .0);
+    next = next-reflects p i .0 (h .1 .1 .1 .1 .1 .1 .0);
   },
   λ k. (
     reachable-reflects p i .1 (k .reachable),
@@ -90,7 +95,10 @@ index-kept p i = (
       checked-reflects p i .1 (k .checked),
       (
         access-reflects p i .1 (k .contained),
-        (jump-reflects p i .1 (k .to-target), (inside-reflects p i .1 (k .inside), (claims-reflects p i .1 (k .claims), tt))),
+        (
+          jump-reflects p i .1 (k .to-target),
+          (inside-reflects p i .1 (k .inside), (taken-reflects p i .1 (k .taken), (next-reflects p i .1 (k .next), tt))),
+        ),
       ),
     ),
   ),

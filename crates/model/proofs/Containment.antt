@@ -18,7 +18,7 @@ use Rattle.model.specs.Words.{modulus, wrap}
 use Rattle.model.specs.Ranges.{low, high}
 use Rattle.model.specs.Instructions.{bytesOf, reg, Access}
 use Rattle.model.specs.Step.{address, inZones, addressesFrom}
-use Rattle.model.specs.Rules.{LayoutKept, Contained}
+use Rattle.model.specs.Rules.{LayoutKept, Allowed}
 use Rattle.model.specs.Safety.{InZones}
 use Rattle.model.proofs.Registers.{Within}
 use Rattle.model.proofs.RuleW.{Raisable, raised, raised-before, raised-after, sum-raisable, Signed32, signed32-raisable}
@@ -58,7 +58,7 @@ pub record AccessInZones (l : Layout) (rs : List ℕ) (ac : Access) : Type 0 whe
   pub below : address ac rs + bytesOf (ac .width) ≤ l .base + l .size + l .guard
 
 module _ {l : Layout} {k : Ranges} {rs : List ℕ} {ac : Access} (lk : LayoutKept l) (w : Within k rs)
-    (p8 : ac .pointer < 8) (s : Signed32 (ac .displacement)) (c : Contained l k ac) where
+    (p8 : ac .pointer < 8) (s : Signed32 (ac .displacement)) (c : Allowed l k ac) where
   displacement-raisable : Raisable (ac .displacement)
   displacement-raisable = signed32-raisable (ac .displacement) s
 

@@ -2,7 +2,7 @@
 use Prim.Native.Nat.{ℕ, zero, suc, _+_, _-_, _*_, _/_, _%_, _^_, _≤_, _<_}
 use mathlib.Core.Path.{_≡_, refl, ap, _∙_}
 use mathlib.Core.Logic.{_↔_, Iff·trans}
-use mathlib.Core.Bool.{Bool, true, false≢true}
+use mathlib.Core.Bool.{true, false≢true}
 use mathlib.Core.List.{List}
 use mathlib.Core.Option.{Option, none, some, Option·none-ne-some}
 use native.Mathlib.Omega.{arith}
@@ -13,7 +13,7 @@ use Rattle.model.specs.Quantifiers.{anyOf}
 use Rattle.model.specs.Words.{modulus}
 use Rattle.model.specs.Obligations.{AllMet}
 use Rattle.model.specs.Ranges.{low, high}
-use Rattle.model.specs.File.{byteAt, isListed, field, fieldLength, instructionCount, isLayout, isInstruction, instructionIn, targetStart, targetIndex, targetKind, claimIn, isInOrder, isGoodTarget}
+use Rattle.model.specs.File.{byteAt, isListed, field, fieldLength, isLayout, isInstruction, instructionIn, targetStart, targetIndex, targetKind, claimIn, isInOrder, isGoodTarget}
 use Rattle.model.specs.Rules.{FieldKept, LayoutKept, InstructionKept, TargetKept}
 use Rattle.model.proofs.Reflection.{Reflects, le-reflects, lt-reflects, eq-reflects, and-reflects, implies-reflects, allBelow-reflects, anyBelow-reflects}
 
@@ -64,36 +64,36 @@ layout-reflects l =
     divides (q, e) = ap (λ (x : ℕ). x % l .size) e ∙ mul-mod-left q (l .size)
 
 -- rule 6
-pub instruction-reflects : (file : List ℕ) (i : ℕ) → Reflects (isInstruction file i) (InstructionKept file i)
-instruction-reflects file i = present (instructionIn file i)
+pub instruction-reflects : (code : List ℕ) (i : ℕ) → Reflects (isInstruction code i) (InstructionKept code i)
+instruction-reflects code i = present (instructionIn code i)
   where
     present : (o : Option Instruction) → Reflects (anyOf o (λ x. true)) ((x : Instruction) × (o ≡ some x))
     present none = (λ e. absurd (false≢true e), λ w. absurd (Option·none-ne-some (w .0) (w .1)))
     present (some x) = (λ e. (x, refl), λ w. refl)
 
 -- rule 7
-order-reflects : (file : List ℕ) (j : ℕ)
-    → Reflects (isInOrder file j)
-    ((j ≡ 0 → (targetIndex file 0 ≡ 0) × (targetKind file 0 ≡ 1))
-    × ((i : ℕ) → j ≡ suc i → targetIndex file i < targetIndex file (suc i)))
-order-reflects file zero =
+order-reflects : (targets : List ℕ) (j : ℕ)
+    → Reflects (isInOrder targets j)
+    ((j ≡ 0 → (targetIndex targets 0 ≡ 0) × (targetKind targets 0 ≡ 1))
+    × ((i : ℕ) → j ≡ suc i → targetIndex targets i < targetIndex targets (suc i)))
+order-reflects targets zero =
     Iff·trans (and-reflects (eq-reflects _ _) (eq-reflects _ _))
     (λ h. (λ _. h, λ i q. absurd (omega arith)), λ h. h .0 refl)
-order-reflects file (suc j) =
+order-reflects targets (suc j) =
     Iff·trans (lt-reflects _ _)
     (λ h. (λ q. absurd (omega arith), λ i q. let same : j ≡ i = omega arith in rw same at h), λ h. h .1 j refl)
 
-pub target-reflects : (file : List ℕ) (j : ℕ) → Reflects (isGoodTarget file j) (TargetKept file j)
+pub target-reflects : (n : ℕ) (targets : List ℕ) (j : ℕ) → Reflects (isGoodTarget n targets j) (TargetKept n targets j)
 unfolding isGoodTarget
-target-reflects file j =
+target-reflects n targets j =
     Iff·trans
     (and-reflects (and-reflects (and-reflects (and-reflects (and-reflects
-    (lt-reflects (targetIndex file j) (instructionCount file))
-    (lt-reflects (targetKind file j) 2))
-    (eq-reflects (byteAt file (targetStart file j + 3)) 0))
-    (allBelow-reflects 8 (λ r. le-reflects (low (claimIn file j) r) (high (claimIn file j) r))))
-    (implies-reflects (eq-reflects (targetKind file j) 1) (allBelow-reflects 8 (λ r. and-reflects (eq-reflects _ _) (eq-reflects _ _)))))
-    (order-reflects file j)) (
+    (lt-reflects (targetIndex targets j) n)
+    (lt-reflects (targetKind targets j) 2))
+    (eq-reflects (byteAt targets (targetStart j + 3)) 0))
+    (allBelow-reflects 8 (λ r. le-reflects (low (claimIn targets j) r) (high (claimIn targets j) r))))
+    (implies-reflects (eq-reflects (targetKind targets j) 1) (allBelow-reflects 8 (λ r. and-reflects (eq-reflects _ _) (eq-reflects _ _)))))
+    (order-reflects targets j)) (
       λ h. record {
         inside = h .0 .0 .0 .0 .0;
         kind = h .0 .0 .0 .0 .1;

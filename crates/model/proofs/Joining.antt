@@ -1,7 +1,7 @@
 -- Two runs in a row are one: a run that used its budget up goes on as a run with a greater budget would; and the steps that a
 -- run makes. Assumes nothing.
-use Prim.Native.Nat.{ℕ, zero, suc, _+_, _≤_}
-use mathlib.Core.Path.{_≡_, refl, ap, _∙_}
+use Prim.Native.Nat.{ℕ, zero, suc, _+_}
+use mathlib.Core.Path.{_≡_, refl, _∙_}
 use mathlib.Core.List.{List, [], _∷_}
 use mathlib.Core.Option.{Option, none, some}
 use native.Mathlib.Nat.{zero-add, suc-add}
@@ -73,36 +73,3 @@ joining p (suc first) more m bs out =
     rw suc-add
     (followed-continues p more s (run p first (s .machine) (s .region)) (run p (first + more) (s .machine) (s .region)) (s .ending)
     (step-ending p m bs) out (joining p first more (s .machine) (s .region)))
-
--- ---- the steps
-
--- a run makes no more steps than its budget
-pub steps-in-budget : (p : Program) (budget : ℕ) (m : Machine) (bs : List ℕ) → steps (run p budget m bs) ≤ budget
-unfolding run
-steps-in-budget p zero m bs = omega arith
-steps-in-budget p (suc budget) m bs =
-    followed-steps (step p m bs .ending) (steps-in-budget p budget (step p m bs .machine) (step p m bs .region))
-  where
-    rest : Run
-    rest = run p budget (step p m bs .machine) (step p m bs .region)
-
-    followed-steps : (ending : Option Ending) → steps rest ≤ budget → steps (followed (step p m bs) rest ending) ≤ suc budget
-    followed-steps none later = omega arith
-    followed-steps (some e) later = omega arith
-
--- a run that used its budget up made as many steps
-pub steps-out-of-budget : (p : Program) (budget : ℕ) (m : Machine) (bs : List ℕ)
-    → run p budget m bs .ending ≡ OutOfBudget → steps (run p budget m bs) ≡ budget
-unfolding run
-steps-out-of-budget p zero m bs out = refl
-steps-out-of-budget p (suc budget) m bs out =
-    followed-steps (step p m bs .ending) (step-ending p m bs) out
-    (steps-out-of-budget p budget (step p m bs .machine) (step p m bs .region))
-  where
-    rest : Run
-    rest = run p budget (step p m bs .machine) (step p m bs .region)
-
-    followed-steps : (ending : Option Ending) → StepEnding ending → followed (step p m bs) rest ending .ending ≡ OutOfBudget
-        → (rest .ending ≡ OutOfBudget → steps rest ≡ budget) → steps (followed (step p m bs) rest ending) ≡ suc budget
-    followed-steps none by-step out later = ap suc (later out)
-    followed-steps (some e) by-step out later = absurd (not-by-step e by-step out)

@@ -1,6 +1,6 @@
 -- Two calls in a row are one: a call to run that used its budget up, and then another on the machine and memory that it left,
 -- at the same offset, come to what one call with both budgets comes to. Assumes nothing.
-use Prim.Native.Nat.{ℕ, _+_, _≤_, _<_}
+use Prim.Native.Nat.{ℕ, _+_}
 use mathlib.Core.Path.{_≡_, refl, sym, ap, _∙_}
 use mathlib.Core.List.{List}
 use mathlib.Core.Option.{Option, none, some}
@@ -70,7 +70,7 @@ module _ (file : List ℕ) (m : Machine) (memory : List ℕ) (offset first : ℕ
 
     first-steady : RunSteady (programIn file) m (stretch offset size memory) firstRun
     first-steady =
-        readable-steady file (asked .file-rules) m (stretch offset size memory) (asked .pc-inside) .1 first
+        readable-steady (asked .file-rules .holds) m (stretch offset size memory) (asked .pc-inside) .1 first
 
     region-between : length (firstRun .region) ≡ size
     region-between = first-steady .region-length ∙ stretch-length offset size memory (asked .fits)

@@ -7,6 +7,7 @@ pub mod Tabulate
 pub mod FileRules
 pub mod CodeRules
 pub mod Accepted
+pub mod Stretches
 pub mod Memory
 pub mod Steady
 pub mod Targets
@@ -20,4 +21,7 @@ pub mod Cuts
 pub mod Sound
 pub mod Accuracy
 pub mod LongFiles
-pub mod Outcomes
+pub mod Numbers
+pub mod Rows
+pub mod Line
+pub mod Promises

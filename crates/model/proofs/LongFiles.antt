@@ -14,7 +14,7 @@ use borrow.Author.Tests.{le-leb, ne-eqb}
 use Rattle.model.specs.Words.{readBytes}
 use Rattle.model.specs.Obligations.{Fault, fault, Obligation, owes, firstFault}
 use Rattle.model.specs.File.{byteAt, fieldLength, valueAt, fieldEnd, mostInstructions, mostTargets, isMultiple, isListed, field, codeStart, targetsAt, readable}
-use Rattle.model.specs.Judgement.{obligations, judged, concluded, judgement}
+use Rattle.model.specs.Judgement.{obligations, firstBroken, concluded, judgement}
 use Rattle.model.proofs.Faults.{append-faulty}
 use Rattle.model.proofs.Reflection.{eq-reflects, multiple-reflects}
 
@@ -129,10 +129,6 @@ module _ (file : List ℕ) (m : ℕ) (long : 50198 ≤ m) (inside : m ≤ length
       (ap (λ (n : ℕ). valueAt codeStart + n) (same-length codeStart (omega arith))) (omega arith) _ _)))
 
   -- the fault is the same, and so is the answer
-  pub long-file-judged : judged (take m file) ≡ judged file
-  unfolding judged
-  long-file-judged = refused-alike .first ∙ sym (refused-alike .second)
-
   pub long-file : judgement (take m file) ≡ judgement file
-  unfolding judgement judged
+  unfolding judgement firstBroken
   long-file = ap (concluded front) (refused-alike .first) ∙ sym (ap (concluded file) (refused-alike .second))

@@ -1,7 +1,7 @@
 -- Each Boolean test of the definitions passes exactly if the statement that it tests holds. Assumes nothing.
-use Prim.Native.Nat.{ℕ, zero, suc, _+_, _*_, _/_, _%_, _≤_, _<_}
+use Prim.Native.Nat.{ℕ, zero, suc, _/_, _%_, _≤_, _<_}
 use mathlib.Core.Path.{_≡_, refl, sym, ap, _∙_}
-use mathlib.Core.Logic.{_↔_, _⊎_, inl, inr, ⊎-elim}
+use mathlib.Core.Logic.{_↔_, _⊎_, inl, inr}
 use mathlib.Core.Bool.{Bool, true, false, not, _&&_, _||_, false≢true}
 use mathlib.Core.Option.{Option, none, some, Option·none-ne-some, Option·some-injective}
 use native.Mathlib.Omega.{arith}

@@ -8,12 +8,13 @@ use native.Mathlib.Decide.{ℕ-discrete}
 use lib.ListN.{length, getD, set, length-set}
 use lib.Seq.{getD-set-same, getD-set-other, set-getD}
 use lib.Pow.{pow-add}
+use Rattle.model.specs.declared.Pair.{Pair}
 use Rattle.model.specs.declared.Range.{Range}
 use Rattle.model.specs.declared.Ranges.{Ranges}
 use Rattle.model.specs.Words.{modulus, readBytes, writeBytes}
-use Rattle.model.specs.Ranges.{low, high, rangeOf, put, common, isEmpty, cut, cutBoth}
+use Rattle.model.specs.Ranges.{low, high, put, common, isEmpty, cut, cutBoth}
 use Rattle.model.specs.Instructions.{reg}
-use Rattle.model.specs.Safety.{Words, Bytes}
+use Rattle.model.specs.Safety.{EightWords, Bytes}
 use Rattle.model.proofs.Tests.{by-cond}
 
 -- a value lies in a range
@@ -37,7 +38,7 @@ bound-after-set Bounds bounds rs a e v h h′ new r old (yes q) =
 bound-after-set Bounds bounds rs a e v h h′ new r old (no q) =
     rw (getD-set-other bounds a r e 0 q, getD-set-other rs a r v 0 q) old
 
-module _ {k : Ranges} {rs : List ℕ} (w : Within k rs) (ws : Words rs) (a : ℕ) (a8 : a < 8) where
+module _ {k : Ranges} {rs : List ℕ} (w : Within k rs) (ws : EightWords rs) (a : ℕ) (a8 : a < 8) where
   -- a register takes a new value, and its range becomes one that the value lies in
   pub within-put : (x : Range) (v : ℕ) → In x v → Within (put k a x) (set rs a v)
   within-put x v i = record {
@@ -59,30 +60,25 @@ module _ {k : Ranges} {rs : List ℕ} (w : Within k rs) (ws : Words rs) (a : ℕ
   pub within-narrow : (x : Range) → In x (reg rs a) → Within (put k a x) rs
   within-narrow x i = subst (λ (s : List ℕ). Within (put k a x) s) (set-getD rs a 0) (within-put x (reg rs a) i)
 
-  -- a register that lies in its range and another lies in what both have in common
-  in-common : (x : Range) → In x (reg rs a) → In (common (rangeOf k a) x) (reg rs a)
-  in-common x i = omega (arith, w .low a a8, w .high a a8)
+-- ---- cuts: what is cut away, the registers do not hold
 
-  -- a range is cut to another one that the register lies in
-  pub within-cut : (x : Range) → In x (reg rs a) → Within (cut k a x) rs
-  unfolding cut
-  within-cut x i =
-      by-cond (λ (k′ : Ranges). Within k′ rs) (isEmpty (common (rangeOf k a) x)) (λ _. w)
-      (λ _. within-narrow (common (rangeOf k a) x) (in-common x i))
+in-common : {x y : Range} {v : ℕ} → In x v → In y v → In (common x y) v
+in-common i j = omega (arith, i, j)
 
--- two ranges are cut at once, each to another one that its register lies in
-pub within-cutBoth : {k : Ranges} {rs : List ℕ} → Within k rs → Words rs
-    → (a : ℕ) → a < 8 → (x : Range) → In x (reg rs a)
-    → (b : ℕ) → b < 8 → (y : Range) → In y (reg rs b)
-    → Within (cutBoth k a x b y) rs
+pub in-cut : {x to : Range} {v : ℕ} → In x v → In to v → In (cut x to) v
+unfolding cut
+in-cut {x} {to} {v} i j = by-cond (λ (r : Range). In r v) (isEmpty (common x to)) (λ _. i) (λ _. in-common i j)
+
+-- two values lie in two ranges
+abbrev pub InBoth : Pair → ℕ → ℕ → Type 0
+InBoth xs v u = In (xs .first) v × In (xs .second) u
+
+pub in-cutBoth : {x p y q : Range} {v u : ℕ} → In x v → In p v → In y u → In q u → InBoth (cutBoth x p y q) v u
 unfolding cutBoth
-within-cutBoth {k} {rs} w ws a a8 x i b b8 y j =
-    by-cond (λ (k′ : Ranges). Within k′ rs) (isEmpty (common (rangeOf k a) x) || isEmpty (common (rangeOf k b) y))
-    (λ _. w)
-    (λ _. within-narrow first-cut ws b b8 (common (rangeOf k b) y) (in-common w ws b b8 y j))
-  where
-    first-cut : Within (put k a (common (rangeOf k a) x)) rs
-    first-cut = within-narrow w ws a a8 (common (rangeOf k a) x) (in-common w ws a a8 x i)
+in-cutBoth {x} {p} {y} {q} {v} {u} i i′ j j′ =
+    by-cond (λ (xs : Pair). InBoth xs v u) (isEmpty (common x p) || isEmpty (common y q))
+    (λ _. (i, j))
+    (λ _. (in-common i i′, in-common j j′))
 
 -- ---- words and bytes that change
 
@@ -94,7 +90,7 @@ below-set c (x ∷ xs) (suc a) v below v-below zero = below zero
 below-set c (x ∷ xs) (suc a) v below v-below (suc i) = below-set c xs a v (λ j. below (suc j)) v-below i
 
 -- a register takes a word
-pub words-set : {rs : List ℕ} → Words rs → (a v : ℕ) → v < modulus → Words (set rs a v)
+pub words-set : {rs : List ℕ} → EightWords rs → (a v : ℕ) → v < modulus → EightWords (set rs a v)
 words-set {rs} ws a v v-below =
     record { eight = simp length-set (ws .eight); small = below-set modulus rs a v (ws .small) v-below }
 

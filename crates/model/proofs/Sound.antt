@@ -1,4 +1,4 @@
--- Sound shapes: what the accuracy of the ranges asks of an instruction, and that every instruction of a file has it.
+-- Sound shapes: what the accuracy of the ranges asks of an instruction, and that every instruction of a module has it.
 -- Assumes nothing.
 use Prim.Native.Nat.{ℕ, zero, suc, _+_, _<_}
 use mathlib.Core.Path.{_≡_, refl, subst}
@@ -15,12 +15,12 @@ use Rattle.model.specs.declared.Ranges.{Ranges}
 use Rattle.model.specs.declared.Test.{Test}
 use Rattle.model.specs.declared.Width.{Width}
 use Rattle.model.specs.Words.{modulus, signed}
-use Rattle.model.specs.Ranges.{rangeOf}
+use Rattle.model.specs.Ranges.{rangeOf, regionRange}
 use Rattle.model.specs.Instructions.{reg, Access, Shape, stops, assigns, loads, stores, jumps, branches, checks, jumpsVia, shape}
 use Rattle.model.specs.Step.{shapeAt}
-use Rattle.model.specs.File.{byteAt, isRegister, hasNothing, hasA, hasAB, hasAAmount, hasImm, hasAImm, hasABWImm, provided, rows, widthOf, testOf, decode, instructionAt, instructionIn, instructionCount, layoutIn, programIn}
+use Rattle.model.specs.File.{byteAt, isRegister, hasNothing, hasA, hasAB, hasAAmount, hasImm, hasAImm, hasABWImm, provided, rows, widthOf, testOf, decode, instructionAt, instructionIn, instructionCount, programOf}
 use Rattle.model.specs.Rules.{LayoutKept}
-use Rattle.model.specs.Safety.{Words}
+use Rattle.model.specs.Safety.{EightWords}
 use Rattle.model.proofs.Tests.{and-left, and-right}
 use Rattle.model.proofs.Tabulate.{tabulate-everywhere}
 use Rattle.model.proofs.Registers.{Within, read-below}
@@ -28,9 +28,9 @@ use Rattle.model.proofs.RuleW.{Signed32, signed-signed32}
 use Rattle.model.proofs.Values.{Fits, register-fits, constant-fits, add-fits, addi-fits, sub-fits, and-fits, guard-fits, shr-fits, sar-fits}
 
 -- a register's new value fits its new range, whatever the registers hold of their ranges
-pub record SoundAssignment (a : ℕ) (value : List ℕ → ℕ) (ranged : Ranges → Range) : Type 0 where
+pub record SoundAssignment (l : Layout) (a : ℕ) (value : Layout → List ℕ → ℕ) (ranged : Range → Ranges → Range) : Type 0 where
   pub register : a < 8
-  pub fits : {k : Ranges} {rs : List ℕ} → Within k rs → Words rs → Fits (ranged k) (value rs)
+  pub fits : {k : Ranges} {rs : List ℕ} → Within k rs → EightWords rs → Fits (ranged (regionRange l) k) (value l rs)
 
 -- a load's or store's operands
 pub record SoundAccess (a : ℕ) (ac : Access) : Type 0 where
@@ -44,21 +44,21 @@ pub record SoundBranch (a b : ℕ) : Type 0 where
   pub right : b < 8
 
 -- what is asked of each shape
-abbrev pub Sound : Shape → Type 0
-Sound stops = Unit {0}
-Sound (assigns a value ranged) = SoundAssignment a value ranged
-Sound (loads a ac) = SoundAccess a ac
-Sound (stores a ac) = SoundAccess a ac
-Sound (jumps to) = Unit {0}
-Sound (branches test a b to) = SoundBranch a b
-Sound (checks a) = a < 8
-Sound (jumpsVia a) = a < 8
+abbrev pub Sound : Layout → Shape → Type 0
+Sound l stops = Unit {0}
+Sound l (assigns a value ranged) = SoundAssignment l a value ranged
+Sound l (loads a ac) = SoundAccess a ac
+Sound l (stores a ac) = SoundAccess a ac
+Sound l (jumps to) = Unit {0}
+Sound l (branches test a b to) = SoundBranch a b
+Sound l (checks a) = a < 8
+Sound l (jumpsVia a) = a < 8
 
 -- ---- the rows of the instructions' table
 
 abbrev SoundRow : Layout → Option Instruction → Type 0
 SoundRow l none = Unit {0}
-SoundRow l (some i) = Sound (shape l i)
+SoundRow l (some i) = Sound l (shape i)
 
 infixr 5 _then_
 data SoundRows (l : Layout) : List (Option Instruction) → Type 0 where
@@ -75,7 +75,7 @@ module _ (l : Layout) where
   provided-sound true row sound = sound refl
   provided-sound false row sound = tt
 
-  mapped-sound : {A : Type 0} (f : A → Instruction) (o : Option A) → ((x : A) → Sound (shape l (f x))) → SoundRow l (Option·map f o)
+  mapped-sound : {A : Type 0} (f : A → Instruction) (o : Option A) → ((x : A) → Sound l (shape (f x))) → SoundRow l (Option·map f o)
   mapped-sound f none sound = tt
   mapped-sound f (some x) sound = sound x
 
@@ -110,13 +110,13 @@ module _ {l : Layout} (lk : LayoutKept l) (a b w imm : ℕ) (imm-word : imm < mo
       (λ t. sound (ltb-true a 8 (and-left (isRegister a) (isRegister b) t)) (ltb-true b 8 (and-right (isRegister a) (isRegister b) t)))
 
   -- a new value that is made from the registers a, or a and b, fits if it does so where they fit
-  from-a : {value : List ℕ → ℕ} {ranged : Ranges → Range} → a < 8
-      → ((k : Ranges) (rs : List ℕ) → Fits (rangeOf k a) (reg rs a) → Fits (ranged k) (value rs)) → SoundAssignment a value ranged
+  from-a : {value : Layout → List ℕ → ℕ} {ranged : Range → Ranges → Range} → a < 8
+      → ((k : Ranges) (rs : List ℕ) → Fits (rangeOf k a) (reg rs a) → Fits (ranged (regionRange l) k) (value l rs)) → SoundAssignment l a value ranged
   from-a a8 fits = record { register = a8; fits = λ {k} {rs} within words. fits k rs (register-fits within words a a8) }
 
-  from-a-b : {value : List ℕ → ℕ} {ranged : Ranges → Range} → a < 8 → b < 8
-      → ((k : Ranges) (rs : List ℕ) → Fits (rangeOf k a) (reg rs a) → Fits (rangeOf k b) (reg rs b) → Fits (ranged k) (value rs))
-      → SoundAssignment a value ranged
+  from-a-b : {value : Layout → List ℕ → ℕ} {ranged : Range → Ranges → Range} → a < 8 → b < 8
+      → ((k : Ranges) (rs : List ℕ) → Fits (rangeOf k a) (reg rs a) → Fits (rangeOf k b) (reg rs b) → Fits (ranged (regionRange l) k) (value l rs))
+      → SoundAssignment l a value ranged
   from-a-b a8 b8 fits = record {
     register = a8;
     fits = λ {k} {rs} within words. fits k rs (register-fits within words a a8) (register-fits within words b b8);
@@ -153,28 +153,27 @@ module _ {l : Layout} (lk : LayoutKept l) (a b w imm : ℕ) (imm-word : imm < mo
   unfolding decode
   decoded-row-sound op = row-sound rows-sound op
 
--- ---- the instructions of a file
+-- ---- the instructions of a module
 
 -- what is decoded is sound
 pub decode-sound : {l : Layout} → LayoutKept l → (op a b w imm : ℕ) → imm < modulus
-    → (i : Instruction) → decode op a b w imm ≡ some i → Sound (shape l i)
+    → (i : Instruction) → decode op a b w imm ≡ some i → Sound l (shape i)
 decode-sound {l} lk op a b w imm imm-word i e = subst (SoundRow l) e (decoded-row-sound lk a b w imm imm-word op)
 
-module _ (file : List ℕ) (bytes : (i : ℕ) → byteAt file i < 256) {l : Layout} (lk : LayoutKept l) where
-  -- the instruction at an index of the file is sound
-  pub instruction-sound : (j : ℕ) (i : Instruction) → instructionIn file j ≡ some i → Sound (shape l i)
+module _ (code : List ℕ) (bytes : (i : ℕ) → byteAt code i < 256) {l : Layout} (lk : LayoutKept l) where
+  -- the instruction at an index of the code is sound
+  pub instruction-sound : (j : ℕ) (i : Instruction) → instructionIn code j ≡ some i → Sound l (shape i)
   unfolding instructionIn
-  instruction-sound j i e = decode-sound lk _ _ _ _ _ (read-below 4 file (instructionAt j + 4) bytes) i e
+  instruction-sound j i e = decode-sound lk _ _ _ _ _ (read-below 4 code (instructionAt j + 4) bytes) i e
 
-  or-halt-sound : (j : ℕ) (o : Option Instruction) → instructionIn file j ≡ o → Sound (shape l (Option·getD o Halt))
+  or-halt-sound : (j : ℕ) (o : Option Instruction) → instructionIn code j ≡ o → Sound l (shape (Option·getD o Halt))
   unfolding shape
   or-halt-sound j none e = tt
   or-halt-sound j (some i) e = instruction-sound j i e
 
--- every index of a file's module has a sound shape
-pub code-sound : (file : List ℕ) → ((i : ℕ) → byteAt file i < 256) → LayoutKept (layoutIn file)
-    → (j : ℕ) → Sound (shapeAt (programIn file) j)
-unfolding programIn shape
-code-sound file bytes lk j =
-    tabulate-everywhere (λ (i : Instruction). Sound (shape (layoutIn file) i)) (λ i. Option·getD (instructionIn file i) Halt) Halt
-    (λ i. or-halt-sound file bytes lk i (instructionIn file i) refl) tt 0 (instructionCount file) j
+  -- every index of a module has a sound shape
+  pub code-sound : (targets : List ℕ) (j : ℕ) → Sound l (shapeAt (programOf l code targets) j)
+  unfolding programOf shape
+  code-sound targets j =
+      tabulate-everywhere (λ (i : Instruction). Sound l (shape i)) (λ i. Option·getD (instructionIn code i) Halt) Halt
+      (λ i. or-halt-sound i (instructionIn code i) refl) tt 0 (instructionCount code) j

@@ -14,11 +14,12 @@ use Rattle.model.specs.declared.Ending.the-variants.{Halted, Trapped, De
 use Rattle.model.specs.declared.Layout.{Layout}
 use Rattle.model.specs.declared.Machine.{Machine}
 use Rattle.model.specs.declared.Target.{Target}
+use Rattle.model.specs.declared.Width.{Width}
 use Rattle.model.specs.Words.{writeBytes}
 use Rattle.model.specs.Quantifiers.{anyOf}
 use Rattle.model.specs.Program.{Program, targetAt, isTarget, isIndirect}
-use Rattle.model.specs.Instructions.{bytesOf, holds, reg, Access, Shape, stops, assigns, loads, stores, jumps, branches, checks, jumpsVia}
-use Rattle.model.specs.Step.{address, inRegion, inZones, Effect, goesOn, goesTo, goesVia, ends, accessing, effect, Landing, Step, stays, moves, settle, shapeAt, step}
+use Rattle.model.specs.Instructions.{bytesOf, holds, reg, Shape, stops, assigns, loads, stores, jumps, branches, checks, jumpsVia}
+use Rattle.model.specs.Step.{address, inRegion, inZones, Effect, goesOn, goesTo, goesVia, ends, accessing, effect, Landing, Step, stays, moves, settle, shapeAt, stepOf, step}
 use Rattle.model.specs.Run.{Run, followed, run}
 use Rattle.model.proofs.Tests.{by-cond}
 
@@ -64,20 +65,20 @@ Moderate rs bs (goesTo to) = Unit {0}
 Moderate rs bs (goesVia to) = Unit {0}
 Moderate rs bs (ends e) = StepEnding (some e)
 
-accessing-moderate : (l : Layout) (ac : Access) (rs bs : List ℕ) (done : Effect)
-    → Moderate rs bs done → Moderate rs bs (accessing l ac rs done)
+accessing-moderate : (l : Layout) (at : ℕ) (w : Width) (rs bs : List ℕ) (done : Effect)
+    → Moderate rs bs done → Moderate rs bs (accessing l at w done)
 unfolding accessing
-accessing-moderate l ac rs bs done moderate =
-    by-cond (Moderate rs bs) (inRegion l (address ac rs) (bytesOf (ac .width))) (λ _. moderate)
-    (λ _. by-cond (λ (e : Ending). StepEnding (some e)) (inZones l (address ac rs) (bytesOf (ac .width))) (λ _. tt) (λ _. tt))
+accessing-moderate l at w rs bs done moderate =
+    by-cond (Moderate rs bs) (inRegion l at (bytesOf w)) (λ _. moderate)
+    (λ _. by-cond (λ (e : Ending). StepEnding (some e)) (inZones l at (bytesOf w)) (λ _. tt) (λ _. tt))
 
 effect-moderate : (l : Layout) (ts : List Target) (sh : Shape) (rs bs : List ℕ) → Moderate rs bs (effect l ts sh rs bs)
 unfolding effect
 effect-moderate l ts stops rs bs = tt
-effect-moderate l ts (assigns a value ranged) rs bs = (length-set rs a (value rs), refl)
-effect-moderate l ts (loads a ac) rs bs = accessing-moderate l ac rs bs _ (length-set rs a _, refl)
+effect-moderate l ts (assigns a value ranged) rs bs = (length-set rs a (value l rs), refl)
+effect-moderate l ts (loads a ac) rs bs = accessing-moderate l (address ac rs) (ac .width) rs bs _ (length-set rs a _, refl)
 effect-moderate l ts (stores a ac) rs bs =
-    accessing-moderate l ac rs bs _ (refl, writeBytes-length (bytesOf (ac .width)) (reg rs a) bs _)
+    accessing-moderate l (address ac rs) (ac .width) rs bs _ (refl, writeBytes-length (bytesOf (ac .width)) (reg rs a) bs _)
 effect-moderate l ts (jumps to) rs bs = tt
 effect-moderate l ts (branches test a b to) rs bs =
     by-cond (Moderate rs bs) (holds test (reg rs a) (reg rs b)) (λ _. tt) (λ _. (refl, refl))
@@ -99,13 +100,9 @@ settle-ending p m bs reached (ends e) moderate = moderate
 
 -- a step goes on or ends the run, and never by using the budget up
 pub step-ending : (p : Program) (m : Machine) (bs : List ℕ) → StepEnding (step p m bs .ending)
-unfolding step
+unfolding step stepOf
 step-ending p m bs =
     settle-ending p m bs _ _ (effect-moderate (p .layout) (p .targets) (shapeAt p (m .pc)) (m .registers) bs)
-
--- the one ending that no step has
-pub step-not-out-of-budget : (p : Program) (m : Machine) (bs : List ℕ) → step p m bs .ending ≡ some OutOfBudget → ⊥
-step-not-out-of-budget p m bs out = rw out at (step-ending p m bs)
 
 -- ---- what a step keeps
 
@@ -154,7 +151,7 @@ settle-steady p inside m bs reached (ends e) starts-inside moderate = stays-stea
 -- any step keeps the pc inside the code, the number of registers and bytes, and all there is if it ends the run
 pub step-steady : (p : Program) → TargetsInside p → (m : Machine) (bs : List ℕ)
     → m .pc < length (p .code) → Steady p m bs (step p m bs)
-unfolding step
+unfolding step stepOf
 step-steady p inside m bs starts-inside =
     settle-steady p inside m bs _ _ starts-inside
     (effect-moderate (p .layout) (p .targets) (shapeAt p (m .pc)) (m .registers) bs)

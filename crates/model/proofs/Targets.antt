@@ -1,38 +1,40 @@
--- The code and the targets of a file: an index has the instruction of its bytes; and, where rules 1 to 7 are kept, what is found
--- at an index is one of the file's targets, it lies inside the code, and an indirect one claims nothing. Assumes nothing.
+-- The code and the targets of a module: an index has the instruction of its bytes; and, where rules 5 to 7 are kept, what is found
+-- at an index is one of its targets, it lies inside the code, and an indirect one claims nothing. Assumes nothing.
 use Prim.Native.Nat.{ℕ, zero, suc, _+_, _≤_, _<_}
 use mathlib.Core.Path.{_≡_, refl, sym, ap, _∙_, subst}
 use native.Mathlib.Nat.{zero-add}
 use mathlib.Core.Bool.{Bool, true, false}
 use mathlib.Core.List.{List}
-use mathlib.Core.Option.{Option, none, some, Option·none-ne-some, Option·some-injective, Option·getD}
+use mathlib.Core.Option.{Option, some, Option·none-ne-some, Option·some-injective, Option·getD}
 use native.Mathlib.Omega.{arith}
 use lib.Dec.{eqb}
 use lib.ListN.{length}
 use borrow.Author.Tests.{eqb-true}
 use Rattle.model.specs.declared.Instruction.the-variants.{Halt}
+use Rattle.model.specs.declared.Layout.{Layout}
 use Rattle.model.specs.declared.Machine.{Machine}
 use Rattle.model.specs.declared.Target.{Target}
 use Rattle.model.specs.Ranges.{low, high}
 use Rattle.model.specs.Program.{codeAt, targetAt}
 use Rattle.model.specs.Step.{step}
-use Rattle.model.specs.File.{instructionCount, targetCount, instructionIn, tabulate, claimIn, targetIn, indirectClaim, programIn}
-use Rattle.model.specs.Rules.{FileKept, TargetKept}
+use Rattle.model.specs.File.{instructionCount, targetCount, instructionIn, tabulate, claimIn, targetIn, indirectClaim, programOf}
+use Rattle.model.specs.Rules.{TargetKept, ModuleKept}
 use Rattle.model.specs.Run.{run}
 use Rattle.model.proofs.Steady.{TargetsInside, Steady, RunSteady, step-steady, run-steady}
 use Rattle.model.proofs.Tabulate.{length-tabulate, tabulate-at}
 
--- a module has as many instructions as its file says
-pub code-length : (file : List ℕ) → length (programIn file .code) ≡ instructionCount file
-unfolding programIn
-code-length file = length-tabulate 0 (instructionCount file) (λ i. Option·getD (instructionIn file i) Halt)
+module _ (l : Layout) (code targets : List ℕ) where
+  -- a module has as many instructions as its code has bytes for
+  pub code-length : length (programOf l code targets .code) ≡ instructionCount code
+  unfolding programOf
+  code-length = length-tabulate 0 (instructionCount code) (λ i. Option·getD (instructionIn code i) Halt)
 
--- the instruction at an index is what its eight bytes are
-pub code-at : (file : List ℕ) (i : ℕ) → i < instructionCount file → Option·getD (instructionIn file i) Halt ≡ codeAt (programIn file) i
-unfolding programIn
-code-at file i below =
-    sym (tabulate-at (λ j. Option·getD (instructionIn file j) Halt) Halt 0 (instructionCount file) i below
-    ∙ ap (λ (j : ℕ). Option·getD (instructionIn file j) Halt) (zero-add i))
+  -- the instruction at an index is what its eight bytes are
+  pub code-at : (i : ℕ) → i < instructionCount code → Option·getD (instructionIn code i) Halt ≡ codeAt (programOf l code targets) i
+  unfolding programOf
+  code-at i below =
+      sym (tabulate-at (λ j. Option·getD (instructionIn code j) Halt) Halt 0 (instructionCount code) i below
+      ∙ ap (λ (j : ℕ). Option·getD (instructionIn code j) Halt) (zero-add i))
 
 -- what is found at index i in a table of targets is the entry of some number, and has that index
 pub record Found (f : ℕ → Target) (from count i : ℕ) (t : Target) : Type 0 where
@@ -57,37 +59,39 @@ found f from (suc count) i t e = here-or-later (eqb (f from .index) i) refl (λ 
         let l = later q in
         record { number = l .number; least = omega (arith, l .least); most = omega (arith, l .most); is = l .is; index = l .index }
 
--- what a file says of a target of its module
-pub record TargetFacts (file : List ℕ) (i : ℕ) (t : Target) : Type 0 where
-  pub inside : i < length (programIn file .code)
+-- what is said of a target of a module
+pub record TargetFacts (n i : ℕ) (t : Target) : Type 0 where
+  pub inside : i < n
   pub lows8 : length (t .claim .lows) ≡ 8
   pub highs8 : length (t .claim .highs) ≡ 8
   pub indirect : t .indirect ≡ true → (r : ℕ) → r < 8
       → (low (t .claim) r ≡ low indirectClaim r) × (high (t .claim) r ≡ high indirectClaim r)
 
-pub target-facts : (file : List ℕ) → FileKept file → (i : ℕ) (t : Target) → targetAt (programIn file .targets) i ≡ some t → TargetFacts file i t
-unfolding programIn targetIn claimIn
-target-facts file k i t e =
-    let f : Found (targetIn file) 0 (targetCount file) i t = found (targetIn file) 0 (targetCount file) i t e in
-    let kept : TargetKept file (f .number) = k .targets (f .number) (omega (arith, f .most)) in
-    subst (TargetFacts file i) (f .is)
-    (record {
-      inside = omega (arith, kept .inside, f .index, code-length file);
-      lows8 = length-tabulate 0 8 _;
-      highs8 = length-tabulate 0 8 _;
-      indirect = λ is r below. kept .indirect (eqb-true _ _ is) r below;
-    })
+module _ {l : Layout} {code targets : List ℕ} (kept : ModuleKept l code targets) where
+  pub target-facts : (i : ℕ) (t : Target) → targetAt (programOf l code targets .targets) i ≡ some t
+      → TargetFacts (length (programOf l code targets .code)) i t
+  unfolding programOf targetIn claimIn
+  target-facts i t e =
+      let f : Found (targetIn targets) 0 (targetCount targets) i t = found (targetIn targets) 0 (targetCount targets) i t e in
+      let good : TargetKept (instructionCount code) targets (f .number) = kept .each-target (f .number) (omega (arith, f .most)) in
+      subst (TargetFacts (length (programOf l code targets .code)) i) (f .is)
+      (record {
+        inside = omega (arith, good .inside, f .index, code-length l code targets);
+        lows8 = length-tabulate 0 8 _;
+        highs8 = length-tabulate 0 8 _;
+        indirect = λ is r below. good .indirect (eqb-true _ _ is) r below;
+      })
 
--- every target of such a file lies inside its code
-pub targets-inside : (file : List ℕ) → FileKept file → TargetsInside (programIn file)
-targets-inside file k i t e = target-facts file k i t e .inside
+  -- every target lies inside the code
+  pub targets-inside : TargetsInside (programOf l code targets)
+  targets-inside i t e = target-facts i t e .inside
 
--- so any step and any run of it, verified or not, are steady
-pub readable-steady : (file : List ℕ) → FileKept file → (m : Machine) (bs : List ℕ) → m .pc < instructionCount file
-    → Steady (programIn file) m bs (step (programIn file) m bs)
-    × ((budget : ℕ) → RunSteady (programIn file) m bs (run (programIn file) budget m bs))
-readable-steady file k m bs below =
-    let inside : m .pc < length (programIn file .code) = rw code-length below in (
-      step-steady (programIn file) (targets-inside file k) m bs inside,
-      λ budget. run-steady (programIn file) (targets-inside file k) budget m bs inside,
-    )
+  -- so any step and any run, verified or not, are steady
+  pub readable-steady : (m : Machine) (bs : List ℕ) → m .pc < instructionCount code
+      → Steady (programOf l code targets) m bs (step (programOf l code targets) m bs)
+      × ((budget : ℕ) → RunSteady (programOf l code targets) m bs (run (programOf l code targets) budget m bs))
+  readable-steady m bs below =
+      let inside : m .pc < length (programOf l code targets .code) = rw code-length below in (
+        step-steady (programOf l code targets) targets-inside m bs inside,
+        λ budget. run-steady (programOf l code targets) targets-inside budget m bs inside,
+      )

@@ -9,7 +9,6 @@ use native.Mathlib.Nat.{le-refl, lt-of-lt-of-le, mod-lt, mod-eq-of-lt, mul-add-m
 use lib.Dec.{leb, ltb}
 use lib.ListN.{getD}
 use lib.IntN.{ℤ, pos, _+ℤ_, subℕ}
-use lib.Signed.{shrZ}
 use lib.Pow.{shr-mono, shr-le, pow-pos, pow-mono, le-ones}
 use borrow.Author.Tests.{lt-ltb, le-ltb, ltb-true, leb-true}
 use Rattle.model.specs.declared.Layout.{Layout}
@@ -18,10 +17,10 @@ use Rattle.model.specs.declared.Ranges.{Ranges}
 use Rattle.model.specs.declared.Width.{Width}
 use Rattle.model.specs.declared.Width.the-variants.{One, Two, Four}
 use Rattle.model.specs.Words.{modulus, wrap, signed, arithmeticShift, bitwiseAnd, readBytes}
-use Rattle.model.specs.Ranges.{range, rangeOf, ruleW, guardRange, shrRange, sarRange}
+use Rattle.model.specs.Ranges.{range, rangeOf, ruleW, regionRange, guardRange, shrRange, sarRange}
 use Rattle.model.specs.Instructions.{bytesOf, loadRange, reg, guarded}
 use Rattle.model.specs.Rules.{LayoutKept}
-use Rattle.model.specs.Safety.{Words}
+use Rattle.model.specs.Safety.{EightWords}
 use Rattle.model.proofs.Tests.{by-cond, and-left, and-right, or-cases}
 use Rattle.model.proofs.Registers.{In, Within, read-below}
 use Rattle.model.proofs.RuleW.{Signed32, wrap-below, ruleW-add, ruleW-addi, ruleW-sub}
@@ -32,7 +31,7 @@ pub record Fits (p : Range) (x : ℕ) : Type 0 where
   pub word : x < modulus
 
 -- a register's value fits its range
-pub register-fits : {k : Ranges} {rs : List ℕ} → Within k rs → Words rs → (a : ℕ) → a < 8 → Fits (rangeOf k a) (reg rs a)
+pub register-fits : {k : Ranges} {rs : List ℕ} → Within k rs → EightWords rs → (a : ℕ) → a < 8 → Fits (rangeOf k a) (reg rs a)
 register-fits w ws a a8 = record { inside = (w .low a a8, w .high a a8); word = ws .small a }
 
 -- set: a constant fits the range of itself alone
@@ -99,7 +98,7 @@ module _ {l : Layout} (lk : LayoutKept l) {p : Range} {x : ℕ} (f : Fits p x) w
           ∙ mul-add-mod-self-right (lk .aligned .0) (l .size) (x - l .base)
           ∙ mod-eq-of-lt (omega (arith, some-size lk, f .inside .1))
 
-  guarded-in : In (guardRange l p) (guarded l x)
+  guarded-in : In (guardRange (regionRange l) p) (guarded l x)
   unfolding guardRange guarded
   guarded-in =
       by-cond (λ (r : Range). In r (guarded l x)) (from-base && to-last) unchanged
@@ -118,7 +117,7 @@ module _ {l : Layout} (lk : LayoutKept l) {p : Range} {x : ℕ} (f : Fits p x) w
       unchanged t = subst (λ (v : ℕ). In p v) (sym (same t)) (f .inside)
 
   -- a guarded word fits its range where that lies in the region, and the region else
-  pub guard-fits : Fits (guardRange l p) (guarded l x)
+  pub guard-fits : Fits (guardRange (regionRange l) p) (guarded l x)
   unfolding guarded
   guard-fits = record { inside = guarded-in; word = omega (arith, mod-lt x (some-size lk), lk .above) }
 
@@ -133,7 +132,7 @@ shr-fits {p} {x} w f = record {
 
 shift-below : (x w : ℕ) → arithmeticShift x w < modulus
 unfolding arithmeticShift
-shift-below x w = wrap-below (shrZ (signed x) (2 ^ w))
+shift-below x w = wrap-below _
 
 -- an arithmetic shift rises with its word on each side of 2^31
 shift-low : (x w : ℕ) → x < 0x8000_0000 → arithmeticShift x w ≡ x / 2 ^ w

@@ -8,6 +8,7 @@ use Rattle.model.specs.declared.Rule.the-variants.{Truncated, WrongTag, 
 use Rattle.model.specs.declared.Refusal.{Refusal}
 use Rattle.model.specs.declared.Verdict.{Verdict}
 use Rattle.model.specs.declared.Verdict.the-variants as Verdicts
+use Rattle.model.specs.declared.Answer.{Answer}
 use Rattle.model.specs.declared.Completion.{Completion}
 use Rattle.model.specs.declared.Completion.the-variants as Completions
 use Rattle.model.specs.Obligations.{Fault, fault}
@@ -41,7 +42,7 @@ endingNumber Denied = 2
 endingNumber Violated = 3
 endingNumber OutOfBudget = 4
 
--- the verifier's answer: "accepted with the counts of instructions and doors, or the first refusal"
+-- the verifier's answer: accepted, with the counts of instructions and targets, or the first refusal
 pub data Judgement : Type 0 where
   accepted : ℕ → ℕ → Judgement
   refused : Fault → Judgement
@@ -55,9 +56,12 @@ pub data Report : Type 0 where
   ended : Ending → ℕ → Report
   rejected : Fault → ℕ → Report
 
-unfoldable pub reportOf : Completion → ℕ → Report
-reportOf (Completions.Ended e) steps = ended e steps
-reportOf (Completions.Refused r) steps = rejected (faultOf r) steps
+abbrev pub reported : Completion → ℕ → Report
+reported (Completions.Ended e) steps = ended e steps
+reported (Completions.Refused r) steps = rejected (faultOf r) steps
+
+unfoldable pub reportOf : Answer → Report
+reportOf a = reported (a .completion) (a .steps)
 
 -- the steps that a run reports
 abbrev pub stepsIn : Report → ℕ

@@ -1,5 +1,5 @@
 -- The module file: fields, layout, instructions and targets, and refusals 1 to 7 in their order. Assumes nothing.
-use Prim.Native.Nat.{ℕ, zero, suc, _+_, _-_, _*_, _/_, _%_, _^_}
+use Prim.Native.Nat.{ℕ, zero, suc, _+_, _*_, _/_, _%_, _^_}
 use mathlib.Core.Bool.{Bool, true, false, cond, not, _&&_, _||_}
 use mathlib.Core.List.{List, [], _∷_, _++_}
 use mathlib.Core.Option.{Option, none, some, Option·map, Option·getD}
@@ -79,16 +79,30 @@ codeStart = 15
 abbrev pub targetsAt : List ℕ → ℕ
 targetsAt file = fieldEnd file codeStart
 
+-- the stretches of the three values
+abbrev pub layoutBytes : List ℕ → List ℕ
+layoutBytes file = fieldValue file 0 1
+
+abbrev pub codeIn : List ℕ → List ℕ
+codeIn file = fieldValue file codeStart 2
+
+abbrev pub targetsIn : List ℕ → List ℕ
+targetsIn file = fieldValue file (targetsAt file) 3
+
+-- "n instructions", "k doors": of eight bytes each in the one, of 68 in the other
 abbrev pub instructionCount : List ℕ → ℕ
-instructionCount file = fieldLength file codeStart / 8
+instructionCount code = length code / 8
 
 abbrev pub targetCount : List ℕ → ℕ
-targetCount file = fieldLength file (targetsAt file) / 68
+targetCount targets = length targets / 68
 
 -- ---- layout: "base, size, guard, 32 bits each"
 
+abbrev pub layoutOf : List ℕ → Layout
+layoutOf bytes = record { base = readBytes 4 bytes 0; size = readBytes 4 bytes 4; guard = readBytes 4 bytes 8 }
+
 abbrev pub layoutIn : List ℕ → Layout
-layoutIn file = record { base = readBytes 4 file 3; size = readBytes 4 file 7; guard = readBytes 4 file 11 }
+layoutIn file = layoutOf (layoutBytes file)
 
 -- "Size is a power of two from 256 to 65,536."
 abbrev pub isRegionSize : ℕ → Bool
@@ -172,16 +186,17 @@ rows a b w imm =
 unfoldable pub decode : ℕ → ℕ → ℕ → ℕ → ℕ → Option Instruction
 decode op a b w imm = getD (rows a b w imm) op none
 
+-- the instruction at an index of the code
 abbrev pub instructionAt : ℕ → ℕ
-instructionAt i = valueAt codeStart + 8 * i
+instructionAt i = 8 * i
 
 unfoldable pub instructionIn : List ℕ → ℕ → Option Instruction
-instructionIn file i =
-    decode (byteAt file (instructionAt i)) (byteAt file (instructionAt i + 1)) (byteAt file (instructionAt i + 2))
-    (byteAt file (instructionAt i + 3)) (readBytes 4 file (instructionAt i + 4))
+instructionIn code i =
+    decode (byteAt code (instructionAt i)) (byteAt code (instructionAt i + 1)) (byteAt code (instructionAt i + 2))
+    (byteAt code (instructionAt i + 3)) (readBytes 4 code (instructionAt i + 4))
 
 abbrev pub isInstruction : List ℕ → ℕ → Bool
-isInstruction file i = anyOf (instructionIn file i) (λ x. true)
+isInstruction code i = anyOf (instructionIn code i) (λ x. true)
 
 -- ---- targets (doors): "Index (16 bits), kind (8 bits: 0 inner, 1 open), a zero byte, then for r0 to r7 a lowest and a
 -- highest value, 32 bits each: the claim."
@@ -191,23 +206,25 @@ unfoldable pub tabulate : {A : Type 0} → ℕ → ℕ → (ℕ → A) → List 
 tabulate i zero f = []
 tabulate i (suc n) f = f i ∷ tabulate (suc i) n f
 
-abbrev pub targetStart : List ℕ → ℕ → ℕ
-targetStart file j = valueAt (targetsAt file) + 68 * j
+-- the target of a number, counted from 0
+abbrev pub targetStart : ℕ → ℕ
+targetStart j = 68 * j
 
 abbrev pub targetIndex : List ℕ → ℕ → ℕ
-targetIndex file j = readBytes 2 file (targetStart file j)
+targetIndex targets j = readBytes 2 targets (targetStart j)
 
 abbrev pub targetKind : List ℕ → ℕ → ℕ
-targetKind file j = byteAt file (targetStart file j + 2)
+targetKind targets j = byteAt targets (targetStart j + 2)
 
 unfoldable pub claimIn : List ℕ → ℕ → Ranges
-claimIn file j = record {
-  lows = tabulate 0 8 (λ r. readBytes 4 file (targetStart file j + 4 + 8 * r));
-  highs = tabulate 0 8 (λ r. readBytes 4 file (targetStart file j + 8 + 8 * r));
+claimIn targets j = record {
+  lows = tabulate 0 8 (λ r. readBytes 4 targets (targetStart j + 4 + 8 * r));
+  highs = tabulate 0 8 (λ r. readBytes 4 targets (targetStart j + 8 + 8 * r));
 }
 
 unfoldable pub targetIn : List ℕ → ℕ → Target
-targetIn file j = record { index = targetIndex file j; indirect = eqb (targetKind file j) 1; claim = claimIn file j }
+targetIn targets j =
+    record { index = targetIndex targets j; indirect = eqb (targetKind targets j) 1; claim = claimIn targets j }
 
 -- "An open door claims 'anything', 0 to 2^32 − 1, for each register."
 abbrev pub indirectClaim : Ranges
@@ -218,18 +235,30 @@ isIndirectClaim k = allBelow 8 (λ r. eqb (low k r) (low indirectClaim r) && eqb
 
 -- "The first door is open and has index 0."; "Indexes rise strictly"
 abbrev pub isInOrder : List ℕ → ℕ → Bool
-isInOrder file zero = eqb (targetIndex file 0) 0 && eqb (targetKind file 0) 1
-isInOrder file (suc j) = ltb (targetIndex file j) (targetIndex file (suc j))
+isInOrder targets zero = eqb (targetIndex targets 0) 0 && eqb (targetKind targets 0) 1
+isInOrder targets (suc j) = ltb (targetIndex targets j) (targetIndex targets (suc j))
 
 -- "and are below n. No lowest exceeds its highest."
-unfoldable pub isGoodTarget : List ℕ → ℕ → Bool
-isGoodTarget file j =
-    ltb (targetIndex file j) (instructionCount file) && ltb (targetKind file j) 2 && eqb (byteAt file (targetStart file j + 3)) 0
-    && allBelow 8 (λ r. leb (low (claimIn file j) r) (high (claimIn file j) r))
-    && (not (eqb (targetKind file j) 1) || isIndirectClaim (claimIn file j))
-    && isInOrder file j
+unfoldable pub isGoodTarget : ℕ → List ℕ → ℕ → Bool
+isGoodTarget n targets j =
+    ltb (targetIndex targets j) n && ltb (targetKind targets j) 2 && eqb (byteAt targets (targetStart j + 3)) 0
+    && allBelow 8 (λ r. leb (low (claimIn targets j) r) (high (claimIn targets j) r))
+    && (not (eqb (targetKind targets j) 1) || isIndirectClaim (claimIn targets j))
+    && isInOrder targets j
 
 -- ---- the module
+
+-- 6 and 7: every instruction of the code, and every target, in a module of n instructions
+abbrev pub instructionRules : List ℕ → List Obligation
+instructionRules code = each (instructionCount code) (λ i. owes 6 i (isInstruction code i) ∷ [])
+
+abbrev pub targetRules : ℕ → List ℕ → List Obligation
+targetRules n targets = each (targetCount targets) (λ j. owes 7 j (isGoodTarget n targets j) ∷ [])
+
+-- 5, 6 and 7
+abbrev pub moduleRules : Layout → List ℕ → List ℕ → List Obligation
+moduleRules l code targets =
+    owes 5 0 (isLayout l) ∷ (instructionRules code ++ targetRules (instructionCount code) targets)
 
 -- refusals 1 to 7: the three fields in order, "Then come 4, 5, 6, 7 over the whole module."
 unfoldable pub readable : List ℕ → List Obligation
@@ -238,14 +267,16 @@ readable file =
     ++ (field file codeStart 2
     ++ (field file (targetsAt file) 3
     ++ (owes 4 (fieldEnd file (targetsAt file)) (eqb (length file) (fieldEnd file (targetsAt file)))
-    ∷ owes 5 0 (isLayout (layoutIn file))
-    ∷ (each (instructionCount file) (λ i. owes 6 i (isInstruction file i) ∷ [])
-    ++ each (targetCount file) (λ j. owes 7 j (isGoodTarget file j) ∷ [])))))
+    ∷ moduleRules (layoutIn file) (codeIn file) (targetsIn file))))
+
+-- the module of a layout, the code's bytes and the targets' bytes
+unfoldable pub programOf : Layout → List ℕ → List ℕ → Program
+programOf l code targets = record {
+  layout = l;
+  code = tabulate 0 (instructionCount code) (λ i. Option·getD (instructionIn code i) Halt);
+  targets = tabulate 0 (targetCount targets) (targetIn targets);
+}
 
 -- the module that a file holds; of a file that is not readable it is of no consequence
-unfoldable pub programIn : List ℕ → Program
-programIn file = record {
-  layout = layoutIn file;
-  code = tabulate 0 (instructionCount file) (λ i. Option·getD (instructionIn file i) Halt);
-  targets = tabulate 0 (targetCount file) (targetIn file);
-}
+abbrev pub programIn : List ℕ → Program
+programIn file = programOf (layoutIn file) (codeIn file) (targetsIn file)

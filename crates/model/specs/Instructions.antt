@@ -4,7 +4,7 @@ use Prim.Native.Nat.{ℕ, zero, suc, _+_, _-_, _*_, _/_, _%_, _^_, min}
 use mathlib.Core.Bool.{Bool, true, false, cond}
 use mathlib.Core.List.{List}
 use mathlib.Core.Option.{Option, none, some}
-use lib.Dec.{leb, ltb, eqb}
+use lib.Dec.{ltb, eqb}
 use lib.IntN.{ℤ, pos, negsuc, _+ℤ_, subℕ}
 use lib.Signed.{ltZ}
 use lib.ListN.{getD}
@@ -18,7 +18,7 @@ use Rattle.model.specs.declared.Test.the-variants.{Equal, Below, SignedB
 use Rattle.model.specs.declared.Width.{Width}
 use Rattle.model.specs.declared.Width.the-variants.{One, Two, Four}
 use Rattle.model.specs.Words.{wrap, signed, arithmeticShift, bitwiseAnd}
-use Rattle.model.specs.Ranges.{range, low, high, rangeOf, put, ruleW, regionRange, guardRange, shrRange, sarRange, cut, ruleB}
+use Rattle.model.specs.Ranges.{range, low, high, rangeOf, put, ruleW, guardRange, shrRange, sarRange, cut, ruleB}
 
 -- "For load and store w is 1, 2 or 4."
 abbrev pub bytesOf : Width → ℕ
@@ -51,10 +51,10 @@ pub record Access : Type 0 where
   pub displacement : ℤ
 
 -- What an instruction is, seen by what it does. `assigns` has both columns of the table: the register's new value, from the
--- registers before, and its new range, from the ranges before.
+-- layout and the registers before, and its new range, from the region's range and the ranges before.
 pub data Shape : Type 0 where
   stops : Shape
-  assigns : ℕ → (List ℕ → ℕ) → (Ranges → Range) → Shape
+  assigns : ℕ → (Layout → List ℕ → ℕ) → (Range → Ranges → Range) → Shape
   loads : ℕ → Access → Shape
   stores : ℕ → Access → Shape
   jumps : ℕ → Shape
@@ -63,27 +63,27 @@ pub data Shape : Type 0 where
   jumpsVia : ℕ → Shape
 
 -- the table
-unfoldable pub shape : Layout → Instruction → Shape
-shape l Halt = stops
-shape l (Set a imm) = assigns a (λ rs. imm) (λ k. range imm imm)
-shape l (Copy a b) = assigns a (λ rs. reg rs b) (λ k. rangeOf k b)
-shape l (Add a b) =
-    assigns a (λ rs. wrap (pos (reg rs a) +ℤ pos (reg rs b)))
-    (λ k. ruleW (pos (low k a) +ℤ pos (low k b)) (pos (high k a) +ℤ pos (high k b)))
-shape l (Addi a imm) =
-    assigns a (λ rs. wrap (pos (reg rs a) +ℤ imm)) (λ k. ruleW (pos (low k a) +ℤ imm) (pos (high k a) +ℤ imm))
-shape l (Sub a b) =
-    assigns a (λ rs. wrap (subℕ (reg rs a) (reg rs b))) (λ k. ruleW (subℕ (low k a) (high k b)) (subℕ (high k a) (low k b)))
-shape l (Andi a imm) = assigns a (λ rs. bitwiseAnd 32 (reg rs a) imm) (λ k. range 0 (min (high k a) imm))
-shape l (Guard a) = assigns a (λ rs. guarded l (reg rs a)) (λ k. guardRange l (rangeOf k a))
-shape l (Shr a w) = assigns a (λ rs. reg rs a / 2 ^ w) (λ k. shrRange (rangeOf k a) w)
-shape l (Sar a w) = assigns a (λ rs. arithmeticShift (reg rs a) w) (λ k. sarRange (rangeOf k a) w)
-shape l (Load a b w imm) = loads a (record { pointer = b; width = w; displacement = imm })
-shape l (Store a b w imm) = stores a (record { pointer = b; width = w; displacement = imm })
-shape l (Jump to) = jumps to
-shape l (Branch a b test to) = branches test a b to
-shape l (Check a) = checks a
-shape l (Jumpr a) = jumpsVia a
+unfoldable pub shape : Instruction → Shape
+shape Halt = stops
+shape (Set a imm) = assigns a (λ l rs. imm) (λ region k. range imm imm)
+shape (Copy a b) = assigns a (λ l rs. reg rs b) (λ region k. rangeOf k b)
+shape (Add a b) =
+    assigns a (λ l rs. wrap (pos (reg rs a) +ℤ pos (reg rs b)))
+    (λ region k. ruleW (pos (low k a) +ℤ pos (low k b)) (pos (high k a) +ℤ pos (high k b)))
+shape (Addi a imm) =
+    assigns a (λ l rs. wrap (pos (reg rs a) +ℤ imm)) (λ region k. ruleW (pos (low k a) +ℤ imm) (pos (high k a) +ℤ imm))
+shape (Sub a b) =
+    assigns a (λ l rs. wrap (subℕ (reg rs a) (reg rs b))) (λ region k. ruleW (subℕ (low k a) (high k b)) (subℕ (high k a) (low k b)))
+shape (Andi a imm) = assigns a (λ l rs. bitwiseAnd 32 (reg rs a) imm) (λ region k. range 0 (min (high k a) imm))
+shape (Guard a) = assigns a (λ l rs. guarded l (reg rs a)) (λ region k. guardRange region (rangeOf k a))
+shape (Shr a w) = assigns a (λ l rs. reg rs a / 2 ^ w) (λ region k. shrRange (rangeOf k a) w)
+shape (Sar a w) = assigns a (λ l rs. arithmeticShift (reg rs a) w) (λ region k. sarRange (rangeOf k a) w)
+shape (Load a b w imm) = loads a (record { pointer = b; width = w; displacement = imm })
+shape (Store a b w imm) = stores a (record { pointer = b; width = w; displacement = imm })
+shape (Jump to) = jumps to
+shape (Branch a b test to) = branches test a b to
+shape (Check a) = checks a
+shape (Jumpr a) = jumpsVia a
 
 -- what the rules ask of an instruction: the access it makes, the index that a jump or branch names, the register that a jumpr
 -- goes by, the register that a check looks at, and whether it can go on to the next index
@@ -113,20 +113,20 @@ isZero (pos (suc n)) = false
 isZero (negsuc n) = false
 
 -- "Rule N: after a load or store with imm = 0, b's range is cut to DB to DL."
-unfoldable pub ruleN : Layout → Access → Ranges → Ranges
-ruleN l ac k = cond (isZero (ac .displacement)) (cut k (ac .pointer) (regionRange l)) k
+unfoldable pub ruleN : Range → Access → Ranges → Ranges
+ruleN region ac k = cond (isZero (ac .displacement)) (put k (ac .pointer) (cut (rangeOf k (ac .pointer)) region)) k
 
--- the ranges along the edge to the next index ("A load with a = b keeps the loaded range instead."), and
--- along the edge that a jump or taken branch takes
-unfoldable pub afterNext : Layout → Shape → Ranges → Ranges
-afterNext l stops k = k
-afterNext l (assigns a value ranged) k = put k a (ranged k)
-afterNext l (loads a ac) k = put (ruleN l ac k) a (loadRange (ac .width))
-afterNext l (stores a ac) k = ruleN l ac k
-afterNext l (jumps to) k = k
-afterNext l (branches test a b to) k = ruleB test false a b k
-afterNext l (checks a) k = k
-afterNext l (jumpsVia a) k = k
+-- the ranges along the edge to the next index ("A load with a = b keeps the loaded range instead."), the region being DB to DL,
+-- and along the edge that a jump or taken branch takes
+unfoldable pub afterNext : Range → Shape → Ranges → Ranges
+afterNext region stops k = k
+afterNext region (assigns a value ranged) k = put k a (ranged region k)
+afterNext region (loads a ac) k = put (ruleN region ac k) a (loadRange (ac .width))
+afterNext region (stores a ac) k = ruleN region ac k
+afterNext region (jumps to) k = k
+afterNext region (branches test a b to) k = ruleB test false a b k
+afterNext region (checks a) k = k
+afterNext region (jumpsVia a) k = k
 
 unfoldable pub afterTaken : Shape → Ranges → Ranges
 afterTaken stops k = k

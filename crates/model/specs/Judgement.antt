@@ -1,23 +1,25 @@
 -- What the verifier demands: rules 8 to 13 at each instruction, and the whole judgement of a file. Assumes nothing.
 use Prim.Native.Nat.{ℕ, zero, suc, _+_, _-_}
-use mathlib.Core.Bool.{Bool, true, false, not, _&&_, _||_}
+use mathlib.Core.Bool.{Bool, true, not, _&&_, _||_}
 use mathlib.Core.List.{List, [], _∷_, _++_}
-use mathlib.Core.Option.{Option, none, some, Option·getD}
+use mathlib.Core.Option.{Option, none, some}
 use lib.Dec.{eqb}
-use lib.IntN.{pos, _+ℤ_}
+use lib.IntN.{ℤ, pos, _+ℤ_}
 use lib.Signed.{leZ}
 use lib.ListN.{length}
 use Rattle.model.specs.declared.Layout.{Layout}
+use Rattle.model.specs.declared.Range.{Range}
 use Rattle.model.specs.declared.Ranges.{Ranges}
 use Rattle.model.specs.declared.Target.{Target}
+use Rattle.model.specs.declared.Width.{Width}
 use Rattle.model.specs.Quantifiers.{allOf, anyOf}
 use Rattle.model.specs.Obligations.{Fault, Obligation, owes, firstFault, each}
 use Rattle.model.specs.Answers.{Judgement, accepted, refused}
-use Rattle.model.specs.Ranges.{low, high, unknown, liesWithin}
+use Rattle.model.specs.Ranges.{rangeOf, unknown, regionRange, liesWithin}
 use Rattle.model.specs.Program.{Program, targetAt, isTarget}
-use Rattle.model.specs.Instructions.{bytesOf, Access, Shape, Traits, traits, afterNext, afterTaken}
+use Rattle.model.specs.Instructions.{bytesOf, Traits, traits, afterNext, afterTaken}
 use Rattle.model.specs.Step.{shapeAt}
-use Rattle.model.specs.File.{instructionCount, targetCount, readable, programIn}
+use Rattle.model.specs.File.{codeIn, targetsIn, instructionCount, targetCount, readable, programIn}
 
 abbrev pub traitsAt : Program → ℕ → Traits
 traitsAt p i = traits (shapeAt p i)
@@ -33,11 +35,11 @@ claimOr k (some t) = t .claim
 
 unfoldable pub knownAt : Program → ℕ → Ranges
 knownAt p zero = claimOr startingRanges (targetAt (p .targets) 0)
-knownAt p (suc i) = claimOr (afterNext (p .layout) (shapeAt p i) (knownAt p i)) (targetAt (p .targets) (suc i))
+knownAt p (suc i) = claimOr (afterNext (regionRange (p .layout)) (shapeAt p i) (knownAt p i)) (targetAt (p .targets) (suc i))
 
 -- the ranges along an instruction's edges, from what is known before it
 abbrev pub nextRanges : Program → ℕ → Ranges
-nextRanges p i = afterNext (p .layout) (shapeAt p i) (knownAt p i)
+nextRanges p i = afterNext (regionRange (p .layout)) (shapeAt p i) (knownAt p i)
 
 abbrev pub takenRanges : Program → ℕ → Ranges
 takenRanges p i = afterTaken (shapeAt p i) (knownAt p i)
@@ -58,13 +60,15 @@ unfoldable pub isChecked : Program → ℕ → Bool
 isChecked p i = allOf (traitsAt p i .goesBy) (λ a. anyOf (checkedBefore p i) (eqb a) && not (isTarget (p .targets) i))
 
 -- 10, wild access: "exact lowest b + imm must be at least DB − guard and exact highest b + imm + w − 1 at most DL + guard"
-unfoldable pub isContained : Layout → Ranges → Access → Bool
-isContained l k ac =
-    leZ (pos (l .base - l .guard)) (pos (low k (ac .pointer)) +ℤ ac .displacement)
-    && leZ (pos (high k (ac .pointer)) +ℤ ac .displacement +ℤ pos (bytesOf (ac .width) - 1)) (pos (l .base + l .size - 1 + l .guard))
+unfoldable pub isContained : Layout → Range → Width → ℤ → Bool
+isContained l x w imm =
+    leZ (pos (l .base - l .guard)) (pos (x .low) +ℤ imm)
+    && leZ (pos (x .high) +ℤ imm +ℤ pos (bytesOf w - 1)) (pos (l .base + l .size - 1 + l .guard))
 
 unfoldable pub accessContained : Program → ℕ → Bool
-accessContained p i = allOf (traitsAt p i .access) (isContained (p .layout) (knownAt p i))
+accessContained p i =
+    allOf (traitsAt p i .access)
+    (λ ac. isContained (p .layout) (rangeOf (knownAt p i) (ac .pointer)) (ac .width) (ac .displacement))
 
 -- 8, no door: "target of jump or branch is no door"
 unfoldable pub jumpsToTarget : Program → ℕ → Bool
@@ -78,23 +82,27 @@ staysInside p i = not (traitsAt p i .falls && eqb (i + 1) (length (p .code)))
 abbrev pub meetsClaim : Program → ℕ → Ranges → Bool
 meetsClaim p to k = allOf (targetAt (p .targets) to) (λ t. liesWithin k (t .claim))
 
-unfoldable pub claimsKept : Program → ℕ → Bool
-claimsKept p i =
-    allOf (traitsAt p i .names) (λ to. meetsClaim p to (takenRanges p i))
-    && (not (traitsAt p i .falls) || meetsClaim p (i + 1) (nextRanges p i))
+unfoldable pub takenKept : Program → ℕ → Bool
+takenKept p i = allOf (traitsAt p i .names) (λ to. meetsClaim p to (takenRanges p i))
+
+unfoldable pub nextKept : Program → ℕ → Bool
+nextKept p i = not (traitsAt p i .falls) || meetsClaim p (i + 1) (nextRanges p i)
 
 -- ---- the judgement
 
--- "At one instruction the order is: 12, 9, 10, 8, 13, 11"
-unfoldable pub atIndex : Program → ℕ → List Obligation
-atIndex p i =
+-- "At one instruction the order is: 12, 9, 10, 8, 13, 11", which is asked of the edge taken and then of the edge to the next index
+unfoldable pub beforeNext : Program → ℕ → List Obligation
+beforeNext p i =
     owes 12 i (isReachable p i)
     ∷ owes 9 i (isChecked p i)
     ∷ owes 10 i (accessContained p i)
     ∷ owes 8 i (jumpsToTarget p i)
     ∷ owes 13 i (staysInside p i)
-    ∷ owes 11 i (claimsKept p i)
+    ∷ owes 11 i (takenKept p i)
     ∷ []
+
+unfoldable pub atIndex : Program → ℕ → List Obligation
+atIndex p i = beforeNext p i ++ (owes 11 i (nextKept p i) ∷ [])
 
 unfoldable pub verified : Program → List Obligation
 verified p = each (length (p .code)) (atIndex p)
@@ -103,13 +111,13 @@ verified p = each (length (p .code)) (atIndex p)
 unfoldable pub obligations : List ℕ → List Obligation
 obligations file = readable file ++ verified (programIn file)
 
-unfoldable pub judged : List ℕ → Option Fault
-judged file = firstFault (obligations file)
+unfoldable pub firstBroken : List ℕ → Option Fault
+firstBroken file = firstFault (obligations file)
 
 -- the verifier's answer
 abbrev pub concluded : List ℕ → Option Fault → Judgement
-concluded file none = accepted (instructionCount file) (targetCount file)
+concluded file none = accepted (instructionCount (codeIn file)) (targetCount (targetsIn file))
 concluded file (some f) = refused f
 
 unfoldable pub judgement : List ℕ → Judgement
-judgement file = concluded file (judged file)
+judgement file = concluded file (firstBroken file)

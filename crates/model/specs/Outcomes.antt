@@ -1,11 +1,10 @@
 -- The known outcomes that are proved, P1 to P12: what the definitions give, and what document 01 says. The claim that the two
--- agree in every row is `known` in proofs/Outcomes. Assumes nothing.
-use Prim.Native.Nat.{ℕ, zero, suc}
-use mathlib.Core.Bool.{Bool, true, false, _&&_}
-use mathlib.Core.List.{List, [], _∷_}
+-- agree in every row is `KnownOutcomes` in Promises. Assumes nothing.
+use Prim.Native.Nat.{ℕ, _+_, _-_}
+use mathlib.Core.Bool.{true}
+use mathlib.Core.List.{List, [], _∷_, _++_}
 use mathlib.Core.Option.{Option, none, some}
-use lib.Dec.{eqb}
-use lib.IntN.{ℤ, pos, negsuc}
+use lib.IntN.{ℤ, pos, negsuc, _+ℤ_}
 use lib.ListN.{getD, replicate}
 use Rattle.model.specs.declared.Ending.{Ending}
 use Rattle.model.specs.declared.Instruction.{Instruction}
@@ -20,13 +19,13 @@ use Rattle.model.specs.declared.Width.the-variants.{One, Four}
 use Rattle.model.specs.Words.{top, wrap, signed, arithmeticShift, readBytes}
 use Rattle.model.specs.Obligations.{Fault, firstFault, eachFrom}
 use Rattle.model.specs.Answers.{endingNumber, Judgement, accepted, refused}
-use Rattle.model.specs.Ranges.{range, low, high, put, unknown, regionRange, ruleW, sarRange, cutBoth, ruleB}
+use Rattle.model.specs.Ranges.{range, low, high, put, unknown, regionRange, ruleW, guardRange, sarRange, cut, cutBoth, ruleB, liesWithin}
 use Rattle.model.specs.Program.{Program, targetAt}
-use Rattle.model.specs.Instructions.{guarded, shape, afterNext, afterTaken}
-use Rattle.model.specs.Step.{inRegion, inZones, accessing, effect, addressesFrom, settle, step, Step}
-use Rattle.model.specs.File.{isListed, field, tabulate, readable, programIn}
-use Rattle.model.specs.Judgement.{isContained, verified, obligations, judged, judgement}
-use Rattle.model.specs.Run.{Run, run, steps}
+use Rattle.model.specs.Instructions.{guarded, shape, ruleN, afterNext, afterTaken}
+use Rattle.model.specs.Step.{inRegion, inZones, accessing, effect, addressesFrom, settle, stepOf, step}
+use Rattle.model.specs.File.{isListed, field, tabulate, fieldValue, readable, programOf}
+use Rattle.model.specs.Judgement.{knownAt, isReachable, isChecked, isContained, accessContained, jumpsToTarget, staysInside, takenKept, nextKept, beforeNext, atIndex, verified, obligations, firstBroken, judgement}
+use Rattle.model.specs.Run.{run, steps}
 
 -- a row: the outcome's number, what the definitions give, and what document 01 says
 pub record Row : Type 0 where
@@ -75,7 +74,7 @@ spent = 4
 
 -- one step from r0 = r1 = x: r0 after it, and how it ended
 unfoldable pub stepped : Instruction → ℕ → List ℕ
-unfolding step settle effect accessing shape guarded wrap inRegion inZones readBytes addressesFrom targetAt endingNumber
+unfolding step stepOf settle effect accessing shape guarded wrap inRegion inZones readBytes addressesFrom targetAt endingNumber
 stepped i x = let s = step (only i) (holding x) zeros in getD (s .machine .registers) 0 0 ∷ endingOr running (s .ending) ∷ []
 
 -- r0's and r1's ranges
@@ -88,21 +87,35 @@ shown k = low k 0 ∷ high k 0 ∷ low k 1 ∷ high k 1 ∷ []
 -- their ranges after an instruction: on the way to the next index, and along the taken edge
 unfoldable pub next : Instruction → Range → Range → List ℕ
 unfolding afterNext shape ruleW sarRange arithmeticShift signed wrap ruleB cutBoth
-next i x y = shown (afterNext layout (shape layout i) (knowing x y))
+next i x y = shown (afterNext (regionRange layout) (shape i) (knowing x y))
 
 unfoldable pub taken : Instruction → Range → Range → List ℕ
 unfolding afterTaken shape ruleB cutBoth
-taken i x y = shown (afterTaken (shape layout i) (knowing x y))
+taken i x y = shown (afterTaken (shape i) (knowing x y))
 
--- rule 10 for an access of four bytes through r0 in DB to DL: 1 for kept, 0 for refused
-abbrev pub bit : Bool → ℕ
-bit true = 1
-bit false = 0
+-- the judgement of an access of four bytes through r1, which a guard has put in DB to DL: 0 where it is kept, or the refusal's number
+-- and place
+abbrev pub through : ℤ → Program
+through imm = record {
+  layout = layout;
+  code = Guard 1 ∷ Load 0 1 Four imm ∷ Halt ∷ [];
+  targets = record { index = 0; indirect = true; claim = unknown } ∷ [];
+}
 
-unfoldable pub kept : ℤ → ℕ
-unfolding isContained
-kept imm =
-    bit (isContained layout (knowing (regionRange layout) (range 0 top)) (record { pointer = 0; width = Four; displacement = imm }))
+abbrev pub faultTold : Option Fault → List ℕ
+faultTold none = 0 ∷ []
+faultTold (some f) = f .number ∷ f .place ∷ []
+
+unfoldable pub accessed : ℤ → List ℕ
+unfolding verified eachFrom firstFault atIndex beforeNext isReachable isChecked accessContained isContained jumpsToTarget staysInside takenKept nextKept liesWithin knownAt targetAt shape afterNext afterTaken ruleN ruleW guardRange cut
+accessed imm = faultTold (firstFault (verified (through imm)))
+
+-- at a displacement, and at the next one above or below
+abbrev pub andAbove : ℤ → List ℕ
+andAbove imm = accessed imm ++ accessed (imm +ℤ pos 1)
+
+abbrev pub andBelow : ℤ → List ℕ
+andBelow imm = accessed imm ++ accessed (imm +ℤ negsuc 0)
 
 abbrev pub load : Width → Instruction
 load w = Load 0 1 w (pos 0)
@@ -113,19 +126,19 @@ unfolding run endingNumber
 ran budget = let r = run (only Halt) budget (holding 0) zeros in endingNumber (r .ending) ∷ steps r ∷ []
 
 -- a judgement: 0 and the counts, or the refusal's number and place
-abbrev pub told : Judgement → List ℕ
-told (accepted n k) = 0 ∷ n ∷ k ∷ []
-told (refused f) = f .number ∷ f .place ∷ []
+abbrev pub verdictTold : Judgement → List ℕ
+verdictTold (accepted n k) = 0 ∷ n ∷ k ∷ []
+verdictTold (refused f) = f .number ∷ f .place ∷ []
 
-unfoldable pub answered : List ℕ → List ℕ
-unfolding judgement judged obligations readable verified programIn isListed field tabulate eachFrom firstFault readBytes
-answered file = told (judgement file)
+unfoldable pub verdictOn : List ℕ → List ℕ
+unfolding judgement firstBroken obligations readable verified programOf fieldValue isListed field tabulate eachFrom firstFault readBytes
+verdictOn file = verdictTold (judgement file)
 
 abbrev pub below : Instruction
 below = Branch 0 1 Below 0
 
 unfoldable pub table : List Row
-unfolding stepped next taken kept ran answered
+unfolding stepped next taken accessed ran verdictOn
 table =
     row 1 (stepped (Guard 0) 0) (0x2000_0000 ∷ running ∷ [])
     ∷ row 2 (stepped (Guard 0) 0xFFFF_FFFF) (0x2000_0FFF ∷ running ∷ [])
@@ -135,23 +148,16 @@ table =
     ∷ row 6 (taken below (range 0 100) (range 10 10)) (0 ∷ 9 ∷ 10 ∷ 10 ∷ [])
     ∷ row 6 (next below (range 0 100) (range 10 10)) (10 ∷ 100 ∷ 10 ∷ 10 ∷ [])
     ∷ row 7 (taken below (range 10 20) (range 5 5)) (10 ∷ 20 ∷ 5 ∷ 5 ∷ [])
-    ∷ row 8 (kept (pos 253) ∷ kept (pos 254) ∷ kept (negsuc 255) ∷ kept (negsuc 256) ∷ []) (1 ∷ 0 ∷ 1 ∷ 0 ∷ [])
-    ∷ row 9 (stepped (load Four) 0x2000_0FFC) (0 ∷ running ∷ [])
-    ∷ row 9 (stepped (load Four) 0x2000_0FFD) (0x2000_0FFD ∷ trapped ∷ [])
-    ∷ row 10 (stepped (load One) 0x1FFF_FF00) (0x1FFF_FF00 ∷ trapped ∷ [])
-    ∷ row 10 (stepped (load One) 0x1FFF_FEFF) (0x1FFF_FEFF ∷ strayed ∷ [])
+    ∷ row 8 (andAbove (pos 253)) (0 ∷ 10 ∷ 1 ∷ [])
+    ∷ row 8 (andBelow (negsuc 255)) (0 ∷ 10 ∷ 1 ∷ [])
+    ∷ row 9 (let at : ℕ = 0x2000_0FFC in stepped (load Four) at ++ stepped (load Four) (at + 1)) (0 ∷ running ∷ 0x2000_0FFD ∷ trapped ∷ [])
+    ∷ row 10 (let at : ℕ = 0x1FFF_FF00 in stepped (load One) at ++ stepped (load One) (at - 1))
+    (0x1FFF_FF00 ∷ trapped ∷ 0x1FFF_FEFF ∷ strayed ∷ [])
     ∷ row 11 (ran 0) (spent ∷ 0 ∷ [])
-    ∷ row 12 (answered []) (1 ∷ 0 ∷ [])
+    ∷ row 12 (verdictOn []) (1 ∷ 0 ∷ [])
     ∷ []
 
--- the test that the claim computes: in every row the two agree
-unfoldable pub agrees : List ℕ → List ℕ → Bool
-agrees [] [] = true
-agrees [] (y ∷ ys) = false
-agrees (x ∷ xs) [] = false
-agrees (x ∷ xs) (y ∷ ys) = eqb x y && agrees xs ys
-
-unfoldable pub every : List Row → Bool
-unfolding agrees
-every [] = true
-every (r ∷ rs) = agrees (r .given) (r .expected) && every rs
+-- the outcomes' numbers, in order
+unfoldable pub numbers : List Row → List ℕ
+numbers [] = []
+numbers (r ∷ rs) = r .number ∷ numbers rs

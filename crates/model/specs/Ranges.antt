@@ -1,11 +1,11 @@
 -- Ranges of registers, and document 01's rule W and cuts. Assumes nothing.
-use Prim.Native.Nat.{ℕ, zero, suc, _+_, _-_, _/_, _^_, min, max}
+use Prim.Native.Nat.{ℕ, suc, _+_, _-_, _/_, _^_, min, max}
 use mathlib.Core.Bool.{Bool, true, false, cond, _&&_, _||_}
-use mathlib.Core.List.{List}
 use lib.Dec.{leb, ltb, eqb}
 use lib.IntN.{ℤ, pos, negsuc}
 use lib.ListN.{getD, set, replicate}
 use Rattle.model.specs.declared.Layout.{Layout}
+use Rattle.model.specs.declared.Pair.{Pair}
 use Rattle.model.specs.declared.Range.{Range}
 use Rattle.model.specs.declared.Ranges.{Ranges}
 use Rattle.model.specs.declared.Test.{Test}
@@ -52,11 +52,8 @@ abbrev pub regionRange : Layout → Range
 regionRange l = range (l .base) (l .base + l .size - 1)
 
 -- guard: "unchanged if inside the region, else DB to DL"
-abbrev pub insideOr : Range → Range → Range
-insideOr region x = cond (leb (region .low) (x .low) && leb (x .high) (region .high)) x region
-
-unfoldable pub guardRange : Layout → Range → Range
-guardRange l x = insideOr (regionRange l) x
+unfoldable pub guardRange : Range → Range → Range
+guardRange region x = cond (leb (region .low) (x .low) && leb (x .high) (region .high)) x region
 
 -- shr: "both ends shifted"
 abbrev pub shrRange : Range → ℕ → Range
@@ -76,29 +73,33 @@ common x y = range (max (x .low) (y .low)) (min (x .high) (y .high))
 abbrev pub isEmpty : Range → Bool
 isEmpty x = ltb (x .high) (x .low)
 
--- "if any cut would leave an empty range, none of that cut is made": a cut of one register
-unfoldable pub cut : Ranges → ℕ → Range → Ranges
-cut k r x = cond (isEmpty (common (rangeOf k r) x)) k (put k r (common (rangeOf k r) x))
+-- "if any cut would leave an empty range, none of that cut is made": a range is cut to another
+unfoldable pub cut : Range → Range → Range
+cut x to = cond (isEmpty (common x to)) x (common x to)
 
--- and one of two registers at once
-unfoldable pub cutBoth : Ranges → ℕ → Range → ℕ → Range → Ranges
-cutBoth k a x b y =
-    cond (isEmpty (common (rangeOf k a) x) || isEmpty (common (rangeOf k b) y)) k
-    (put (put k a (common (rangeOf k a) x)) b (common (rangeOf k b) y))
+-- and two ranges at once, x to p and y to q
+abbrev pub pair : Range → Range → Pair
+pair x y = record { first = x; second = y }
+
+unfoldable pub cutBoth : Range → Range → Range → Range → Pair
+cutBoth x p y q = cond (isEmpty (common x p) || isEmpty (common y q)) (pair x y) (pair (common x p) (common y q))
 
 -- "Rule B: where a and b are the same register, or w is 2, nothing is cut. Equal and taken: each is cut to the common part.
 -- Equal and not taken: nothing. Unsigned and taken: a at most highest b − 1, b at least lowest a + 1. Unsigned and not taken:
--- a at least lowest b, b at most highest a. Bounds come from the ranges before the branch."
+-- a at least lowest b, b at most highest a. Bounds come from the ranges before the branch.", x of a and y of b
 -- (Where highest b is 0, nothing lies below it: then b's own cut is empty too, so that none is made.)
-abbrev pub cutFor : Test → Bool → ℕ → ℕ → Ranges → Ranges
-cutFor Equal true a b k = cutBoth k a (rangeOf k b) b (rangeOf k a)
-cutFor Equal false a b k = k
-cutFor Below true a b k = cutBoth k a (range 0 (high k b - 1)) b (range (low k a + 1) top)
-cutFor Below false a b k = cutBoth k a (range (low k b) top) b (range 0 (high k a))
-cutFor SignedBelow taken a b k = k
+abbrev pub cutFor : Test → Bool → Range → Range → Pair
+cutFor Equal true x y = cutBoth x y y x
+cutFor Equal false x y = pair x y
+cutFor Below true x y = cutBoth x (range 0 (y .high - 1)) y (range (x .low + 1) top)
+cutFor Below false x y = cutBoth x (range (y .low) top) y (range 0 (x .high))
+cutFor SignedBelow taken x y = pair x y
+
+abbrev pub putBoth : Ranges → ℕ → ℕ → Pair → Ranges
+putBoth k a b xs = put (put k a (xs .first)) b (xs .second)
 
 unfoldable pub ruleB : Test → Bool → ℕ → ℕ → Ranges → Ranges
-ruleB test taken a b k = cond (eqb a b) k (cutFor test taken a b k)
+ruleB test taken a b k = cond (eqb a b) k (putBoth k a b (cutFor test taken (rangeOf k a) (rangeOf k b)))
 
 -- "the ranges .. must lie within its claim", register by register
 unfoldable pub liesWithin : Ranges → Ranges → Bool

@@ -1,23 +1,25 @@
--- Every rule of document 01, stated rule by rule: what a module keeps where `judged` names no fault, and what a run asks for.
+-- Every rule of document 01, stated rule by rule: what a module keeps where `firstBroken` names no fault, and what a run asks for.
 -- Assumes nothing.
 use Prim.Native.Nat.{ℕ, suc, _+_, _-_, _*_, _^_, _≤_, _<_}
 use mathlib.Core.Path.{_≡_}
 use mathlib.Core.Bool.{true, false}
 use mathlib.Core.List.{List}
-use mathlib.Core.Option.{Option, none, some}
-use lib.IntN.{pos, _+ℤ_}
+use mathlib.Core.Option.{some}
+use lib.IntN.{ℤ, pos, _+ℤ_}
 use lib.Signed.{_≤ℤ_}
 use lib.ListN.{length}
 use Rattle.model.specs.declared.Instruction.{Instruction}
 use Rattle.model.specs.declared.Layout.{Layout}
 use Rattle.model.specs.declared.Machine.{Machine}
+use Rattle.model.specs.declared.Range.{Range}
 use Rattle.model.specs.declared.Ranges.{Ranges}
 use Rattle.model.specs.declared.Target.{Target}
+use Rattle.model.specs.declared.Width.{Width}
 use Rattle.model.specs.Words.{modulus}
-use Rattle.model.specs.Ranges.{low, high}
+use Rattle.model.specs.Ranges.{low, high, rangeOf}
 use Rattle.model.specs.Program.{Program, targetAt, isTarget}
-use Rattle.model.specs.Instructions.{bytesOf, Access, Traits}
-use Rattle.model.specs.File.{byteAt, fieldLength, valueAt, fieldEnd, mostInstructions, mostTargets, codeStart, targetsAt, instructionCount, targetCount, layoutIn, instructionIn, targetStart, targetIndex, targetKind, claimIn, indirectClaim, programIn}
+use Rattle.model.specs.Instructions.{bytesOf, Access}
+use Rattle.model.specs.File.{byteAt, fieldLength, valueAt, fieldEnd, mostInstructions, mostTargets, codeStart, targetsAt, codeIn, targetsIn, instructionCount, targetCount, layoutIn, instructionIn, targetStart, targetIndex, targetKind, claimIn, indirectClaim, programIn}
 use Rattle.model.specs.Judgement.{traitsAt, knownAt, nextRanges, takenRanges, checkedBefore}
 
 -- 1, 2, 3: a field stands whole at its offset, with its tag and a length that is listed
@@ -39,20 +41,26 @@ pub record LayoutKept (l : Layout) : Type 0 where
   pub below : l .guard ≤ l .base
   pub above : l .base + l .size + l .guard ≤ modulus
 
--- 6: the eight bytes at an index are an instruction
+-- 6: the eight bytes at an index of the code are an instruction
 abbrev pub InstructionKept : List ℕ → ℕ → Type 0
-InstructionKept file i = (x : Instruction) × (instructionIn file i ≡ some x)
+InstructionKept code i = (x : Instruction) × (instructionIn code i ≡ some x)
 
--- 7
-pub record TargetKept (file : List ℕ) (j : ℕ) : Type 0 where
-  pub inside : targetIndex file j < instructionCount file
-  pub kind : targetKind file j < 2
-  pub zero-byte : byteAt file (targetStart file j + 3) ≡ 0
-  pub ordered : (r : ℕ) → r < 8 → low (claimIn file j) r ≤ high (claimIn file j) r
-  pub indirect : targetKind file j ≡ 1 → (r : ℕ) → r < 8
-      → (low (claimIn file j) r ≡ low indirectClaim r) × (high (claimIn file j) r ≡ high indirectClaim r)
-  pub first : j ≡ 0 → (targetIndex file 0 ≡ 0) × (targetKind file 0 ≡ 1)
-  pub rising : (i : ℕ) → j ≡ suc i → targetIndex file i < targetIndex file (suc i)
+-- 7, in a module of n instructions
+pub record TargetKept (n : ℕ) (targets : List ℕ) (j : ℕ) : Type 0 where
+  pub inside : targetIndex targets j < n
+  pub kind : targetKind targets j < 2
+  pub zero-byte : byteAt targets (targetStart j + 3) ≡ 0
+  pub ordered : (r : ℕ) → r < 8 → low (claimIn targets j) r ≤ high (claimIn targets j) r
+  pub indirect : targetKind targets j ≡ 1 → (r : ℕ) → r < 8
+      → (low (claimIn targets j) r ≡ low indirectClaim r) × (high (claimIn targets j) r ≡ high indirectClaim r)
+  pub first : j ≡ 0 → (targetIndex targets 0 ≡ 0) × (targetKind targets 0 ≡ 1)
+  pub rising : (i : ℕ) → j ≡ suc i → targetIndex targets i < targetIndex targets (suc i)
+
+-- 5, 6 and 7: the layout, every instruction of the code and every target
+pub record ModuleKept (l : Layout) (code targets : List ℕ) : Type 0 where
+  pub layout : LayoutKept l
+  pub each-instruction : (i : ℕ) → i < instructionCount code → InstructionKept code i
+  pub each-target : (j : ℕ) → j < targetCount targets → TargetKept (instructionCount code) targets j
 
 -- 12: after an instruction that does not go on to the next index there is a target
 abbrev pub Reachable : Program → ℕ → Type 0
@@ -63,12 +71,15 @@ abbrev pub Checked : Program → ℕ → Type 0
 Checked p i = (a : ℕ) → traitsAt p i .goesBy ≡ some a → (checkedBefore p i ≡ some a) × (isTarget (p .targets) i ≡ false)
 
 -- 10: an access stays in the region and its guard zones, whatever the pointer holds of its range
-pub record Contained (l : Layout) (k : Ranges) (ac : Access) : Type 0 where
-  pub lowest : pos (l .base - l .guard) ≤ℤ (pos (low k (ac .pointer)) +ℤ ac .displacement)
-  pub highest : (pos (high k (ac .pointer)) +ℤ ac .displacement +ℤ pos (bytesOf (ac .width) - 1)) ≤ℤ pos (l .base + l .size - 1 + l .guard)
+pub record Contained (l : Layout) (x : Range) (w : Width) (imm : ℤ) : Type 0 where
+  pub lowest : pos (l .base - l .guard) ≤ℤ (pos (x .low) +ℤ imm)
+  pub highest : (pos (x .high) +ℤ imm +ℤ pos (bytesOf w - 1)) ≤ℤ pos (l .base + l .size - 1 + l .guard)
+
+abbrev pub Allowed : Layout → Ranges → Access → Type 0
+Allowed l k ac = Contained l (rangeOf k (ac .pointer)) (ac .width) (ac .displacement)
 
 abbrev pub AccessContained : Program → ℕ → Type 0
-AccessContained p i = (ac : Access) → traitsAt p i .access ≡ some ac → Contained (p .layout) (knownAt p i) ac
+AccessContained p i = (ac : Access) → traitsAt p i .access ≡ some ac → Allowed (p .layout) (knownAt p i) ac
 
 -- 8: the index that a jump or branch names is a target
 abbrev pub JumpsToTarget : Program → ℕ → Type 0
@@ -82,11 +93,13 @@ StaysInside p i = traitsAt p i .falls ≡ true → i + 1 ≡ length (p .code) �
 abbrev pub LiesWithin : Ranges → Ranges → Type 0
 LiesWithin k claim = (r : ℕ) → r < 8 → (low claim r ≤ low k r) × (high k r ≤ high claim r)
 
-pub record ClaimsKept (p : Program) (i : ℕ) : Type 0 where
-  pub taken : (to : ℕ) → traitsAt p i .names ≡ some to → (t : Target) → targetAt (p .targets) to ≡ some t
-      → LiesWithin (takenRanges p i) (t .claim)
-  pub next : traitsAt p i .falls ≡ true → (t : Target) → targetAt (p .targets) (i + 1) ≡ some t
-      → LiesWithin (nextRanges p i) (t .claim)
+abbrev pub TakenKept : Program → ℕ → Type 0
+TakenKept p i = (to : ℕ) → traitsAt p i .names ≡ some to → (t : Target) → targetAt (p .targets) to ≡ some t
+    → LiesWithin (takenRanges p i) (t .claim)
+
+abbrev pub NextKept : Program → ℕ → Type 0
+NextKept p i = traitsAt p i .falls ≡ true → (t : Target) → targetAt (p .targets) (i + 1) ≡ some t
+    → LiesWithin (nextRanges p i) (t .claim)
 
 -- rules 8 to 13 at an index
 pub record IndexKept (p : Program) (i : ℕ) : Type 0 where
@@ -95,7 +108,8 @@ pub record IndexKept (p : Program) (i : ℕ) : Type 0 where
   pub contained : AccessContained p i
   pub to-target : JumpsToTarget p i
   pub inside : StaysInside p i
-  pub claims : ClaimsKept p i
+  pub taken : TakenKept p i
+  pub next : NextKept p i
 
 -- rules 1 to 7, over every field, instruction and target
 pub record FileKept (file : List ℕ) : Type 0 where
@@ -103,9 +117,7 @@ pub record FileKept (file : List ℕ) : Type 0 where
   pub code-field : FieldKept file codeStart 2 (SomeOf 8 mostInstructions)
   pub targets-field : FieldKept file (targetsAt file) 3 (SomeOf 68 mostTargets)
   pub no-tail : length file ≡ fieldEnd file (targetsAt file)
-  pub layout : LayoutKept (layoutIn file)
-  pub instructions : (i : ℕ) → i < instructionCount file → InstructionKept file i
-  pub targets : (j : ℕ) → j < targetCount file → TargetKept file j
+  pub holds : ModuleKept (layoutIn file) (codeIn file) (targetsIn file)
 
 -- every rule, and so over every edge too
 pub record KeepsEveryRule (file : List ℕ) : Type 0 where
@@ -115,5 +127,5 @@ pub record KeepsEveryRule (file : List ℕ) : Type 0 where
 -- 14 and 15, beside 1 to 7: what a run asks for
 pub record Runnable (file : List ℕ) (m : Machine) (memory : List ℕ) (offset : ℕ) : Type 0 where
   pub file-rules : FileKept file
-  pub pc-inside : m .pc < instructionCount file
+  pub pc-inside : m .pc < instructionCount (codeIn file)
   pub fits : offset + layoutIn file .size ≤ length memory

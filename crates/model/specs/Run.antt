@@ -12,7 +12,7 @@ use Rattle.model.specs.Obligations.{Fault, Obligation, owes, firstFault}
 use Rattle.model.specs.Answers.{Report, ended, rejected}
 use Rattle.model.specs.Program.{Program}
 use Rattle.model.specs.Step.{Step, step}
-use Rattle.model.specs.File.{instructionCount, layoutIn, readable, programIn}
+use Rattle.model.specs.File.{codeIn, instructionCount, layoutIn, readable, programIn}
 
 -- a run: how it ended, the machine and the region's bytes after it, and its steps
 pub record Run : Type 0 where
@@ -55,7 +55,7 @@ pub record Seen : Type 0 where
   pub machine : Machine
   pub memory : List ℕ
 
--- "a refusal leaves record and memory as they were"; "A refused run reports 0 steps."
+-- "record and memory then hold just what they held before"; "A refused run reports 0 steps."
 abbrev pub unchanged : Machine → List ℕ → Fault → Seen
 unchanged m memory f = record { report = rejected f 0; machine = m; memory = memory }
 
@@ -67,7 +67,7 @@ finished offset size memory r =
 unfoldable pub runnable : List ℕ → Machine → List ℕ → ℕ → List Obligation
 runnable file m memory offset =
     readable file
-    ++ (owes 14 0 (ltb (m .pc) (instructionCount file))
+    ++ (owes 14 0 (ltb (m .pc) (instructionCount (codeIn file)))
     ∷ owes 15 0 (leb (offset + layoutIn file .size) (length memory))
     ∷ [])
 

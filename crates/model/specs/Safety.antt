@@ -1,5 +1,5 @@
 -- Demand 3, stated: "a single claim about the whole list, not one for each run". Assumes nothing.
-use Prim.Native.Nat.{ℕ, _+_, _-_, _≤_, _<_}
+use Prim.Native.Nat.{ℕ, _+_, _≤_, _<_}
 use mathlib.Core.Path.{_≡_}
 use mathlib.Core.Bool.{true}
 use mathlib.Core.List.{List, List·Memᴰ}
@@ -17,14 +17,14 @@ use Rattle.model.specs.Program.{Program, targetAt, isTarget, isIndirect}
 use Rattle.model.specs.Instructions.{reg}
 use Rattle.model.specs.Step.{Step, Landing, nowhere, named, viaRegister}
 use Rattle.model.specs.File.{byteAt, programIn}
-use Rattle.model.specs.Judgement.{judged}
+use Rattle.model.specs.Judgement.{firstBroken}
 use Rattle.model.specs.Run.{splice, Seen}
 use Rattle.model.specs.Walk.{Call, Walked, walk, seenIn, logIn, totalSteps, Called}
 
 -- ---- what the walk is fed
 
 -- eight registers of 32 bits
-pub record Words (rs : List ℕ) : Type 0 where
+pub record EightWords (rs : List ℕ) : Type 0 where
   pub eight : length rs ≡ 8
   pub small : (r : ℕ) → reg rs r < modulus
 
@@ -36,14 +36,14 @@ pub record Bytes (n : ℕ) (bs : List ℕ) : Type 0 where
 -- "It is fed an accepted module, a record at an open door with any registers, a lent memory and a list of items, perhaps none."
 pub record Fed (file : List ℕ) (m : Machine) (calls : List Call) : Type 0 where
   pub bytes : (i : ℕ) → byteAt file i < 256
-  pub accepted : judged file ≡ none
+  pub accepted : firstBroken file ≡ none
   pub at-indirect : isIndirect (programIn file .targets) (m .pc) ≡ true
-  pub registers : Words (m .registers)
+  pub registers : EightWords (m .registers)
   pub written : (c : Call) → List·Memᴰ c calls → Bytes (programIn file .layout .size) (c .bytes)
 
 -- ---- what is demanded of a step
 
--- an address "in the region or guard zones"
+-- an address "in the region or the trapping guard zones beside it"
 pub record InZones (l : Layout) (at : ℕ) : Type 0 where
   pub above : l .base ≤ at + l .guard
   pub below : at < l .base + l .size + l .guard
@@ -59,8 +59,8 @@ pub record ClaimKept (p : Program) (m : Machine) : Type 0 where
   pub kept : (t : Target) → targetAt (p .targets) (m .pc) ≡ some t → (r : ℕ) → r < 8
       → (low (t .claim) r ≤ reg (m .registers) r) × (reg (m .registers) r ≤ high (t .claim) r)
 
--- "everything reached for is in the region or guard zones, every jump is permitted, registers at each target are within its
--- claim, nothing strays"
+-- "every byte reached for lies in the region or the trapping guard zones beside it, every jump has landed on a permitted door, the
+-- registers at each door lie within its claim, nothing has strayed"
 pub record StepSafe (p : Program) (s : Step) : Type 0 where
   pub reached : (at : ℕ) → List·Memᴰ at (s .reached) → InZones (p .layout) at
   pub landing : Permitted p (s .landing)
@@ -81,10 +81,10 @@ MemoryOf p w memory =
     ((s : Step) × List·Memᴰ s (w .log) × (memory ≡ splice (w .call .offset) (p .layout .size) (w .before) (s .region)))
     ⊎ (memory ≡ w .seen .memory)
 
--- "no memory outside the regions changes"
+-- "no run has changed memory outside its region, and what lay in no run's region is as at the start"
 pub record CallSafe (p : Program) (start : List ℕ) (calls : List Call) (w : Walked) : Type 0 where
   pub steps : (s : Step) → List·Memᴰ s (w .log) → StepSafe p s
-  -- "nothing strays", said of the answers too: no call answers that its run strayed
+  -- "nothing has strayed", said of the answers too: no call answers that its run strayed
   pub answer : (n : ℕ) → w .seen .report ≡ ended Violated n → ⊥
   pub length-kept : (memory : List ℕ) → MemoryOf p w memory → length memory ≡ length start
   -- outside the call's region the memory is as before the call

@@ -1,19 +1,21 @@
 -- The listed step: access, places, what it reaches for and where it lands. Assumes nothing.
 use Prim.Native.Nat.{ℕ, zero, suc, _+_, _-_}
-use mathlib.Core.Bool.{Bool, true, false, cond, _&&_}
+use mathlib.Core.Bool.{Bool, cond, _&&_}
 use mathlib.Core.List.{List, [], _∷_}
 use mathlib.Core.Option.{Option, none, some}
 use lib.Dec.{leb, ltb}
 use lib.IntN.{ℤ, pos, _+ℤ_}
-use lib.ListN.{length, getD, set}
+use lib.ListN.{length, set}
 use Rattle.model.specs.declared.Ending.{Ending}
 use Rattle.model.specs.declared.Ending.the-variants.{Halted, Trapped, Denied, Violated}
+use Rattle.model.specs.declared.Instruction.{Instruction}
 use Rattle.model.specs.declared.Layout.{Layout}
 use Rattle.model.specs.declared.Machine.{Machine}
 use Rattle.model.specs.declared.Target.{Target}
+use Rattle.model.specs.declared.Width.{Width}
 use Rattle.model.specs.Words.{wrap, readBytes, writeBytes}
 use Rattle.model.specs.Program.{Program, codeAt, isTarget, isIndirect}
-use Rattle.model.specs.Instructions.{bytesOf, holds, reg, Access, Shape, stops, assigns, loads, stores, jumps, branches, checks, jumpsVia, shape, Traits, traits}
+use Rattle.model.specs.Instructions.{bytesOf, holds, reg, Access, Shape, stops, assigns, loads, stores, jumps, branches, checks, jumpsVia, shape, traits}
 
 -- "The address is taken after wrapping."
 abbrev pub address : Access → List ℕ → ℕ
@@ -36,24 +38,25 @@ pub data Effect : Type 0 where
   ends : Ending → Effect
 
 -- "All w bytes in the region: done. Otherwise all w bytes in region and guard zones: the run is trapped. Otherwise it strays."
-unfoldable pub accessing : Layout → Access → List ℕ → Effect → Effect
-accessing l ac rs done =
-    cond (inRegion l (address ac rs) (bytesOf (ac .width))) done
-    (ends (cond (inZones l (address ac rs) (bytesOf (ac .width))) Trapped Violated))
+unfoldable pub accessing : Layout → ℕ → Width → Effect → Effect
+accessing l at w done =
+    cond (inRegion l at (bytesOf w)) done (ends (cond (inZones l at (bytesOf w)) Trapped Violated))
 
--- "The address base is the first byte of the lent stretch, and loads and stores are little-endian."
-abbrev pub offsetOf : Layout → Access → List ℕ → ℕ
-offsetOf l ac rs = address ac rs - l .base
+-- what a load from an address does, and a store to it: "The address base is the first byte of the lent stretch, and loads and
+-- stores are little-endian."
+abbrev pub loading : Layout → ℕ → Width → ℕ → List ℕ → List ℕ → Effect
+loading l at w a rs bs = accessing l at w (goesOn (set rs a (readBytes (bytesOf w) bs (at - l .base))) bs)
+
+abbrev pub storing : Layout → ℕ → Width → ℕ → List ℕ → List ℕ → Effect
+storing l at w value rs bs = accessing l at w (goesOn rs (writeBytes (bytesOf w) value bs (at - l .base)))
 
 -- the table's middle column: "a := w bytes at b + imm, zero-extended", "low w bytes of a to b + imm", "to imm if the test
 -- holds", "turned away unless a is an open door's index", "to the index in a"
 unfoldable pub effect : Layout → List Target → Shape → List ℕ → List ℕ → Effect
 effect l ts stops rs bs = ends Halted
-effect l ts (assigns a value ranged) rs bs = goesOn (set rs a (value rs)) bs
-effect l ts (loads a ac) rs bs =
-    accessing l ac rs (goesOn (set rs a (readBytes (bytesOf (ac .width)) bs (offsetOf l ac rs))) bs)
-effect l ts (stores a ac) rs bs =
-    accessing l ac rs (goesOn rs (writeBytes (bytesOf (ac .width)) (reg rs a) bs (offsetOf l ac rs)))
+effect l ts (assigns a value ranged) rs bs = goesOn (set rs a (value l rs)) bs
+effect l ts (loads a ac) rs bs = loading l (address ac rs) (ac .width) a rs bs
+effect l ts (stores a ac) rs bs = storing l (address ac rs) (ac .width) (reg rs a) rs bs
 effect l ts (jumps to) rs bs = goesTo to
 effect l ts (branches test a b to) rs bs = cond (holds test (reg rs a) (reg rs b)) (goesTo to) (goesOn rs bs)
 effect l ts (checks a) rs bs = cond (isIndirect ts (reg rs a)) (goesOn rs bs) (ends Denied)
@@ -110,9 +113,14 @@ settle p m bs reached (ends e) = stays m bs reached nowhere e
 
 -- the shape of the instruction at an index
 abbrev pub shapeAt : Program → ℕ → Shape
-shapeAt p i = shape (p .layout) (codeAt p i)
+shapeAt p i = shape (codeAt p i)
 
+-- the listed step of an instruction, wherever it stands
+unfoldable pub stepOf : Program → Instruction → Machine → List ℕ → Step
+stepOf p i m bs =
+    settle p m bs (reaches (traits (shape i) .access) (m .registers))
+    (effect (p .layout) (p .targets) (shape i) (m .registers) bs)
+
+-- and of the one at the pc
 unfoldable pub step : Program → Machine → List ℕ → Step
-step p m bs =
-    settle p m bs (reaches (traits (shapeAt p (m .pc)) .access) (m .registers))
-    (effect (p .layout) (p .targets) (shapeAt p (m .pc)) (m .registers) bs)
+step p m bs = stepOf p (codeAt p (m .pc)) m bs

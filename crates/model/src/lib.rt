@@ -1,5 +1,8 @@
 // The types that the gatekeeper's crates share. What they mean is defined in specs/, beside the sentences of document 01.
 
+ghost use mathlib.Core.Path.{_≡_};
+ghost use Rattle.model.specs.Answers.{ruleNumber, endingNumber};
+
 // How many bytes a load or store moves.
 pub enum Width {
     One,
@@ -95,6 +98,12 @@ pub struct Range {
     pub high: u32,
 }
 
+// The ranges of two registers, cut together.
+pub struct Pair {
+    pub first: Range,
+    pub second: Range,
+}
+
 // A range for each of the eight registers: the verifier's knowledge, or a target's claim.
 pub struct Ranges {
     pub lows: [u32; 8],
@@ -126,6 +135,19 @@ pub enum Ending {
     OutOfBudget,
 }
 
+// The number of an ending.
+pub fn ending_number(ending: Ending) -> u32
+    ensures { λ r. ⌜ r ≡ endingNumber ending ⌝ }
+{
+    match ending {
+        Ending::Halted => 0,
+        Ending::Trapped => 1,
+        Ending::Denied => 2,
+        Ending::Violated => 3,
+        Ending::OutOfBudget => 4,
+    }
+}
+
 // What a refusal is for, in the order of document 01's numbers 1 to 15.
 pub enum Rule {
     Truncated,
@@ -143,6 +165,29 @@ pub enum Rule {
     FallsOff,
     BadPc,
     NoRoom,
+}
+
+// The number of a rule in document 01's table.
+pub fn rule_number(rule: Rule) -> u32
+    ensures { λ r. ⌜ r ≡ ruleNumber rule ⌝ }
+{
+    match rule {
+        Rule::Truncated => 1,
+        Rule::WrongTag => 2,
+        Rule::BadLength => 3,
+        Rule::TrailingBytes => 4,
+        Rule::BadLayout => 5,
+        Rule::BadInstruction => 6,
+        Rule::BadTarget => 7,
+        Rule::NoTarget => 8,
+        Rule::UncheckedJump => 9,
+        Rule::WildAccess => 10,
+        Rule::BrokenClaim => 11,
+        Rule::Unreachable => 12,
+        Rule::FallsOff => 13,
+        Rule::BadPc => 14,
+        Rule::NoRoom => 15,
+    }
 }
 
 // A refusal: the rule, and the offset or index where it is broken.
@@ -163,15 +208,17 @@ pub enum Completion {
     Refused { refusal: Refusal },
 }
 
+// How many steps: a budget, and the count of steps made.
+pub type Steps = u32;
+
 // The answer to a call to run: what came of it, and how many steps were made.
 pub struct Answer {
     pub completion: Completion,
-    pub steps: u32,
+    pub steps: Steps,
 }
 
 // The same with the machine afterwards, for a call that takes and returns the machine by value.
 pub struct Outcome {
     pub machine: Machine,
-    pub completion: Completion,
-    pub steps: u32,
+    pub answer: Answer,
 }

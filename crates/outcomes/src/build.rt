@@ -21,6 +21,8 @@ pub const SAR: u32 = 9;
 
 pub const LOAD: u32 = 10;
 
+pub const STORE: u32 = 11;
+
 pub const JUMP: u32 = 12;
 
 pub const BRANCH: u32 = 13;
@@ -39,32 +41,77 @@ pub struct Ins {
     pub imm: u32,
 }
 
-pub fn wide(x: u32) -> usize
+pub(crate) fn unary(op: u32, a: u32) -> Ins {
+    Ins {
+        op,
+        a,
+        b: 0,
+        w: 0,
+        imm: 0,
+    }
+}
+
+pub(crate) fn binary(op: u32, a: u32, b: u32) -> Ins {
+    Ins {
+        op,
+        a,
+        b,
+        w: 0,
+        imm: 0,
+    }
+}
+
+pub(crate) fn immediate(op: u32, a: u32, imm: u32) -> Ins {
+    Ins {
+        op,
+        a,
+        b: 0,
+        w: 0,
+        imm,
+    }
+}
+
+pub(crate) fn shift(op: u32, a: u32, w: u32) -> Ins {
+    Ins {
+        op,
+        a,
+        b: 0,
+        w,
+        imm: 0,
+    }
+}
+
+// Halt, which leaves nothing to build on.
+pub(crate) fn nothing() -> Ins {
+    unary(0, 0)
+}
+
+pub(crate) fn wide(x: u32) -> usize
     ensures { λ r. ⌜ r < 4294967296 ⌝ }
 {
     x as usize
 }
 
-pub fn put(buf: &mut [u8], at: usize, v: u32) {
+pub(crate) fn put(buf: &mut [u8], at: usize, v: u32) {
     if at < buf.len() {
         buf[at] = (v % 256) as u8;
     }
 }
 
-pub fn put_half(buf: &mut [u8], at: usize, v: u32) {
+pub(crate) fn put_half(buf: &mut [u8], at: usize, v: u32) {
     let i = at % 1024;
     put(buf, i, v);
     put(buf, i + 1, v / 256);
 }
 
-pub fn put_word(buf: &mut [u8], at: usize, v: u32) {
+pub(crate) fn put_word(buf: &mut [u8], at: usize, v: u32) {
     let i = at % 1024;
     put_half(buf, i, v);
     put_half(buf, i + 2, v / 65536);
 }
 
 // The first bytes of a buffer.
-pub fn front(buf: &[u8], length: usize) -> &[u8] {
+pub(crate) fn front(buf: &[u8], length: usize) -> &[u8] {
     if length <= buf.len() {
         return &buf[0..length];
     }
@@ -72,27 +119,27 @@ pub fn front(buf: &[u8], length: usize) -> &[u8] {
 }
 
 // Where instruction i begins.
-pub fn instruction_at(i: u32) -> usize
+pub(crate) fn instruction_at(i: u32) -> usize
     ensures { λ r. ⌜ r < 600 ⌝ }
 {
     18 + wide(i) % 64 * 8
 }
 
 // Where door j begins, in a module of n instructions.
-pub fn door_at(n: u32, j: u32) -> usize
+pub(crate) fn door_at(n: u32, j: u32) -> usize
     ensures { λ r. ⌜ r < 1200 ⌝ }
 {
     21 + wide(n) % 64 * 8 + wide(j) % 8 * 68
 }
 
-pub fn layout(buf: &mut [u8], base: u32, size: u32, guard: u32) {
+pub(crate) fn layout(buf: &mut [u8], base: u32, size: u32, guard: u32) {
     put_word(buf, 3, base);
     put_word(buf, 7, size);
     put_word(buf, 11, guard);
 }
 
 // The headers of the three fields, of n instructions and k doors.
-pub fn headers(buf: &mut [u8], n: u32, k: u32) {
+pub(crate) fn headers(buf: &mut [u8], n: u32, k: u32) {
     put(buf, 0, 1);
     put_half(buf, 1, 12);
     put(buf, 15, 2);
@@ -102,7 +149,7 @@ pub fn headers(buf: &mut [u8], n: u32, k: u32) {
     put_half(buf, at + 1, k % 8 * 68);
 }
 
-pub fn instruction(buf: &mut [u8], i: u32, x: Ins) {
+pub(crate) fn instruction(buf: &mut [u8], i: u32, x: Ins) {
     let at = instruction_at(i);
     put(buf, at, x.op);
     put(buf, at + 1, x.a);
@@ -112,14 +159,14 @@ pub fn instruction(buf: &mut [u8], i: u32, x: Ins) {
 }
 
 // What door j claims of register r.
-pub fn claim(buf: &mut [u8], n: u32, j: u32, r: u32, lowest: u32, highest: u32) {
+pub(crate) fn claim(buf: &mut [u8], n: u32, j: u32, r: u32, lowest: u32, highest: u32) {
     let at = door_at(n, j) + 4 + wide(r) % 8 * 8;
     put_word(buf, at, lowest);
     put_word(buf, at + 4, highest);
 }
 
 // Door j, which claims anything of each register.
-pub fn door(buf: &mut [u8], n: u32, j: u32, index: u32, kind: u32) {
+pub(crate) fn door(buf: &mut [u8], n: u32, j: u32, index: u32, kind: u32) {
     let at = door_at(n, j);
     put_half(buf, at, index);
     put(buf, at + 2, kind);

@@ -6,7 +6,6 @@ use super::damage::damage;
 use super::generate::generate;
 use super::ours;
 use super::plan;
-use super::plan::Plan;
 use super::random::next;
 use super::start;
 use super::start::Start;
@@ -21,13 +20,13 @@ fn fill(memory: &mut [u8], seed: &mut u32) {
     }
 }
 
-fn judge(file: &[u8], tally: &mut [u32; 64]) {
+fn judge(file: &[u8], tally: &mut [u32; 256]) {
     let x = ours::verify(file);
     let y = reference::verify(file);
     count_verdict(tally, y, same_verdict(x, y));
 }
 
-fn run(file: &[u8], s: Start, seed: &mut u32, tally: &mut [u32; 64]) {
+fn run(file: &[u8], s: Start, seed: &mut u32, tally: &mut [u32; 256]) {
     let mut left = [0u8; 700];
     fill(&mut left, seed);
     let mut right = left;
@@ -38,7 +37,7 @@ fn run(file: &[u8], s: Start, seed: &mut u32, tally: &mut [u32; 64]) {
     count_run(tally, y, alike);
 }
 
-pub fn case(seed: &mut u32, tally: &mut [u32; 64]) {
+pub(crate) fn case(seed: &mut u32, tally: &mut [u32; 256]) {
     let plan = plan::draw(seed);
     let mut buf = [0u8; 1024];
     let whole = generate(&mut buf, plan, seed);

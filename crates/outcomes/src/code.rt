@@ -11,11 +11,15 @@ use super::build::Ins;
 use super::build::JUMP;
 use super::build::JUMPR;
 use super::build::LOAD;
-use super::build::MOST;
 use super::build::SAR;
 use super::build::SET;
 use super::build::SHR;
 use super::build::SUB;
+use super::build::binary;
+use super::build::immediate;
+use super::build::nothing;
+use super::build::shift;
+use super::build::unary;
 use super::build::wide;
 use super::plan::ANY;
 use super::plan::BETWEEN;
@@ -39,51 +43,6 @@ const POINTER: u32 = 7;
 const SMALL: u32 = 6;
 
 const WIDTHS: [u32; 4] = [1, 2, 4, 4];
-
-fn unary(op: u32, a: u32) -> Ins {
-    Ins {
-        op,
-        a,
-        b: 0,
-        w: 0,
-        imm: 0,
-    }
-}
-
-fn binary(op: u32, a: u32, b: u32) -> Ins {
-    Ins {
-        op,
-        a,
-        b,
-        w: 0,
-        imm: 0,
-    }
-}
-
-fn immediate(op: u32, a: u32, imm: u32) -> Ins {
-    Ins {
-        op,
-        a,
-        b: 0,
-        w: 0,
-        imm,
-    }
-}
-
-fn shift(op: u32, a: u32, w: u32) -> Ins {
-    Ins {
-        op,
-        a,
-        b: 0,
-        w,
-        imm: 0,
-    }
-}
-
-// Halt, which leaves nothing to build on.
-pub fn nothing() -> Ins {
-    unary(0, 0)
-}
 
 // A value that matters to some rule, or any.
 fn value(plan: Plan, seed: &mut u32) -> u32 {
@@ -272,7 +231,7 @@ fn small_most(plan: Plan) -> u32 {
 }
 
 // The instruction at i, after the one before it.
-pub fn choose(plan: Plan, seed: &mut u32, i: u32, before: Ins) -> Ins {
+pub(crate) fn choose(plan: Plan, seed: &mut u32, i: u32, before: Ins) -> Ins {
     if plan.miss == ANY {
         return unruly(plan, seed);
     }

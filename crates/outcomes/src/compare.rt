@@ -2,7 +2,7 @@
 use reference::Judged;
 use reference::Ran;
 
-pub fn same_verdict(x: Judged, y: Judged) -> bool {
+pub(crate) fn same_verdict(x: Judged, y: Judged) -> bool {
     x.accepted == y.accepted && x.first == y.first && x.second == y.second
 }
 
@@ -18,7 +18,7 @@ fn same_registers(x: &[u32; 8], y: &[u32; 8]) -> bool {
 }
 
 // All of two answers to a run but the memory.
-pub fn same_run(x: Ran, y: Ran) -> bool {
+pub(crate) fn same_run(x: Ran, y: Ran) -> bool {
     let left = x.registers;
     let right = y.registers;
     if x.refused != y.refused || x.code != y.code || x.at != y.at {

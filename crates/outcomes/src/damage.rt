@@ -1,5 +1,4 @@
 // Damage to a module file, one part at a time: lengths and layouts at the edges, operands and doors just out of range.
-use super::build::BRANCH;
 use super::build::Ins;
 use super::build::MOST;
 use super::build::claim;
@@ -143,7 +142,7 @@ fn bend_door(buf: &mut [u8], plan: Plan, seed: &mut u32) {
 }
 
 // Damages one file in three, and answers its new length.
-pub fn damage(buf: &mut [u8], plan: Plan, seed: &mut u32, length: usize) -> usize {
+pub(crate) fn damage(buf: &mut [u8], plan: Plan, seed: &mut u32, length: usize) -> usize {
     let whole = length % 1024;
     if !one_in(seed, 3) {
         return whole;

@@ -1,15 +1,13 @@
 // A whole module file from a plan.
-use super::build::Ins;
-use super::build::MOST;
 use super::build::claim;
 use super::build::door;
 use super::build::door_at;
 use super::build::headers;
 use super::build::instruction;
 use super::build::layout;
+use super::build::nothing;
 use super::build::wide;
 use super::code::choose;
-use super::code::nothing;
 use super::plan::Plan;
 use super::plan::written_kind;
 use std::num::wrapping_add_u32;
@@ -58,7 +56,7 @@ fn all_doors(buf: &mut [u8], plan: Plan) {
 }
 
 // Writes the module, and answers its length.
-pub fn generate(buf: &mut [u8], plan: Plan, seed: &mut u32) -> usize {
+pub(crate) fn generate(buf: &mut [u8], plan: Plan, seed: &mut u32) -> usize {
     layout(buf, plan.base, plan.size, plan.guard);
     headers(buf, plan.n, plan.k);
     instructions(buf, plan, seed);

@@ -135,7 +135,7 @@ fn loop_runs() {
     write(b"\n");
 }
 
-pub fn known() {
+pub(crate) fn known() {
     loop_verdicts(b"the loop", 256, 4);
     loop_verdicts(b"the loop with guard 7", 7, 4);
     loop_verdicts(b"the loop with guard 6", 6, 4);

@@ -4,17 +4,24 @@ mod case;
 mod code;
 mod compare;
 mod damage;
+mod edge;
 mod generate;
+mod groups;
 mod known;
+mod limit;
+mod order;
 mod ours;
 mod plan;
 mod random;
+mod range;
+mod score;
 mod start;
+mod step;
 mod tally;
 
 const CASES: u32 = 3000;
 
-fn cases(tally: &mut [u32; 64]) {
+fn cases(tally: &mut [u32; 256]) {
     let mut seed = 2463534242u32;
     let mut left = CASES;
     while 0 < left {
@@ -25,7 +32,8 @@ fn cases(tally: &mut [u32; 64]) {
 
 fn main() {
     known::known();
-    let mut tally = [0u32; 64];
+    groups::groups();
+    let mut tally = [0u32; 256];
     cases(&mut tally);
     tally::report(&tally);
 }

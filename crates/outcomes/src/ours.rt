@@ -1,22 +1,12 @@
 // The implementation that is held to the reference: the proved verifier and machine, with their answers in the reference's form.
 use model::Completion;
-use model::Ending;
 use model::Machine;
+use model::Outcome;
 use model::Verdict;
 use reference::Judged;
 use reference::Ran;
 
-fn ending_number(ending: Ending) -> u32 {
-    match ending {
-        Ending::Halted => 0,
-        Ending::Trapped => 1,
-        Ending::Denied => 2,
-        Ending::Violated => 3,
-        Ending::OutOfBudget => 4,
-    }
-}
-
-pub fn verify(file: &[u8]) -> Judged {
+pub(crate) fn verify(file: &[u8]) -> Judged {
     let verdict = verifier::verify::verify(file);
     match verdict {
         Verdict::Accepted {
@@ -31,14 +21,42 @@ pub fn verify(file: &[u8]) -> Judged {
             let rule = refusal.rule;
             Judged {
                 accepted: false,
-                first: reader::check::rule_number(rule),
+                first: model::rule_number(rule),
                 second: refusal.place,
             }
         }
     }
 }
 
-pub fn run(
+fn told(outcome: Outcome) -> Ran {
+    let after = outcome.machine;
+    let held = after.registers;
+    let answer = outcome.answer;
+    let completion = answer.completion;
+    match completion {
+        Completion::Ended { ending } => Ran {
+            registers: held,
+            place: after.pc,
+            refused: false,
+            code: model::ending_number(ending),
+            at: 0,
+            steps: answer.steps,
+        },
+        Completion::Refused { refusal } => {
+            let rule = refusal.rule;
+            Ran {
+                registers: held,
+                place: after.pc,
+                refused: true,
+                code: model::rule_number(rule),
+                at: refusal.place,
+                steps: answer.steps,
+            }
+        }
+    }
+}
+
+pub(crate) fn run(
     file: &[u8],
     registers: [u32; 8],
     place: u16,
@@ -50,29 +68,19 @@ pub fn run(
         registers,
         pc: place,
     };
-    let outcome = machine::lent::run_once(file, start, memory, offset, budget);
-    let after = outcome.machine;
-    let held = after.registers;
-    let completion = outcome.completion;
-    match completion {
-        Completion::Ended { ending } => Ran {
-            registers: held,
-            place: after.pc,
-            refused: false,
-            code: ending_number(ending),
-            at: 0,
-            steps: outcome.steps,
-        },
-        Completion::Refused { refusal } => {
-            let rule = refusal.rule;
-            Ran {
-                registers: held,
-                place: after.pc,
-                refused: true,
-                code: reader::check::rule_number(rule),
-                at: refusal.place,
-                steps: outcome.steps,
-            }
-        }
-    }
+    told(machine::value::run(file, start, memory, offset, budget))
+}
+
+pub(crate) fn step(
+    file: &[u8],
+    registers: [u32; 8],
+    place: u16,
+    memory: &mut [u8],
+    offset: usize,
+) -> Ran {
+    let start = Machine {
+        registers,
+        pc: place,
+    };
+    told(machine::value::step(file, start, memory, offset))
 }

@@ -71,7 +71,7 @@ fn miss(seed: &mut u32) -> u32 {
     }
 }
 
-pub fn draw(seed: &mut u32) -> Plan {
+pub(crate) fn draw(seed: &mut u32) -> Plan {
     let second = gap(seed);
     let third = second + gap(seed);
     let fourth = third + gap(seed);
@@ -93,7 +93,7 @@ pub fn draw(seed: &mut u32) -> Plan {
 }
 
 // The index of a door.
-pub fn some_door(plan: Plan, seed: &mut u32) -> u32 {
+pub(crate) fn some_door(plan: Plan, seed: &mut u32) -> u32 {
     let doors = plan.doors;
     doors[wide(below(seed, plan.k)) % 4]
 }
@@ -111,12 +111,12 @@ fn kind_of(plan: Plan, j: u32) -> u32 {
 }
 
 // The number of a kind as the file has it.
-pub fn written_kind(plan: Plan, j: u32) -> u32 {
+pub(crate) fn written_kind(plan: Plan, j: u32) -> u32 {
     if is_open(plan, j) { 1 } else { 0 }
 }
 
 // What stands at an index: 0 no door, 1 an inner one, 2 an open one.
-pub fn kind_at(plan: Plan, i: u32) -> u32 {
+pub(crate) fn kind_at(plan: Plan, i: u32) -> u32 {
     let doors = plan.doors;
     if doors[0] == i {
         return kind_of(plan, 0);

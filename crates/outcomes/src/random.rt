@@ -1,7 +1,7 @@
 // Numbers that look random and are the same in every run: xorshift on 32 bits.
 ghost use Prim.Native.Nat.{_≤_};
 
-pub fn next(seed: &mut u32) -> u32 {
+pub(crate) fn next(seed: &mut u32) -> u32 {
     let a = *seed;
     let b = a ^ (a << 13);
     let c = b ^ (b >> 17);
@@ -11,7 +11,7 @@ pub fn next(seed: &mut u32) -> u32 {
 }
 
 // One of the n numbers from 0 up; 0 where n is 0.
-pub fn below(seed: &mut u32, n: u32) -> u32
+pub(crate) fn below(seed: &mut u32, n: u32) -> u32
     ensures { λ r. ⌜ r ≤ n ⌝ }
 {
     if n == 0 {
@@ -21,6 +21,6 @@ pub fn below(seed: &mut u32, n: u32) -> u32
     if r < n { r } else { 0 }
 }
 
-pub fn one_in(seed: &mut u32, n: u32) -> bool {
+pub(crate) fn one_in(seed: &mut u32, n: u32) -> bool {
     below(seed, n) == 0
 }

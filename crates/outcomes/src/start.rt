@@ -66,7 +66,7 @@ fn first_place(plan: Plan, seed: &mut u32) -> u16 {
     (place % 65536) as u16
 }
 
-pub fn draw(plan: Plan, seed: &mut u32) -> Start {
+pub(crate) fn draw(plan: Plan, seed: &mut u32) -> Start {
     Start {
         registers: first_registers(plan, seed),
         place: first_place(plan, seed),

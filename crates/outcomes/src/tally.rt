@@ -4,29 +4,29 @@ use libc::STDOUT_FILENO;
 use reference::Judged;
 use reference::Ran;
 
-// The slots of a tally of 64: verdicts from 0 up (0 accepted, else the refusal's number), refused runs from 16 and
-// ended ones from 32 up, then how many were compared and agree.
+// The slots of a tally of 256: verdicts from 0 up (0 accepted, else the refusal's number), refused runs from 64 and
+// ended ones from 128 up, then how many were compared and agree. A refusal's number is below 64.
 const VERDICTS: usize = 0;
 
-const REFUSED_RUNS: usize = 16;
+const REFUSED_RUNS: usize = 64;
 
-const ENDED_RUNS: usize = 32;
+const ENDED_RUNS: usize = 128;
 
-pub const JUDGED: usize = 40;
+const JUDGED: usize = 192;
 
-pub const JUDGED_ALIKE: usize = 41;
+const JUDGED_ALIKE: usize = 193;
 
-pub const RAN: usize = 42;
+const RAN: usize = 194;
 
-pub const RAN_ALIKE: usize = 43;
+const RAN_ALIKE: usize = 195;
 
-pub fn count(tally: &mut [u32; 64], slot: usize) {
-    let i = slot % 64;
+pub(crate) fn count(tally: &mut [u32; 256], slot: usize) {
+    let i = slot % 256;
     tally[i] = std::num::wrapping_add_u32(tally[i], 1);
 }
 
-pub fn count_verdict(tally: &mut [u32; 64], x: Judged, alike: bool) {
-    let number = if x.accepted { 0 } else { wide(x.first) % 16 };
+pub(crate) fn count_verdict(tally: &mut [u32; 256], x: Judged, alike: bool) {
+    let number = if x.accepted { 0 } else { wide(x.first) % 64 };
     count(tally, VERDICTS + number);
     count(tally, JUDGED);
     if alike {
@@ -34,8 +34,8 @@ pub fn count_verdict(tally: &mut [u32; 64], x: Judged, alike: bool) {
     }
 }
 
-pub fn count_run(tally: &mut [u32; 64], x: Ran, alike: bool) {
-    let code = wide(x.code) % 16;
+pub(crate) fn count_run(tally: &mut [u32; 256], x: Ran, alike: bool) {
+    let code = wide(x.code) % 64;
     if x.refused {
         count(tally, REFUSED_RUNS + code);
     } else {
@@ -47,16 +47,16 @@ pub fn count_run(tally: &mut [u32; 64], x: Ran, alike: bool) {
     }
 }
 
-pub fn write(words: &[u8]) {
+pub(crate) fn write(words: &[u8]) {
     io::write_all(STDOUT_FILENO, words);
 }
 
-pub fn write_number(number: u32) {
+pub(crate) fn write_number(number: u32) {
     io::print_decimal(STDOUT_FILENO, number as u64);
 }
 
-fn entry(tally: &[u32; 64], slot: usize) -> u32 {
-    tally[slot % 64]
+fn entry(tally: &[u32; 256], slot: usize) -> u32 {
+    tally[slot % 256]
 }
 
 fn line(words: &[u8], number: u32) {
@@ -74,22 +74,25 @@ fn agreement(words: &[u8], alike: u32, all: u32) {
     write(b"\n");
 }
 
-fn refusal(tally: &[u32; 64], words: &[u8], slots: usize, number: u32) {
-    write(words);
-    write_number(number);
-    line(b"", entry(tally, slots % 64 + wide(number)));
+// A refusal that was given.
+fn refusal(tally: &[u32; 256], words: &[u8], slots: usize, number: u32) {
+    let given = entry(tally, slots % 256 + wide(number));
+    if 0 < given {
+        write(words);
+        write_number(number);
+        line(b"", given);
+    }
 }
 
-// A line for each refusal whose number is at least `from` and below `end`.
-fn refusals(tally: &[u32; 64], words: &[u8], slots: usize, from: u32, end: u32) {
-    let mut number = from;
-    while number < end {
+fn refusals(tally: &[u32; 256], words: &[u8], slots: usize) {
+    let mut number = 1u32;
+    while number < 64 {
         refusal(tally, words, slots, number);
         number += 1;
     }
 }
 
-fn endings(tally: &[u32; 64]) {
+fn endings(tally: &[u32; 256]) {
     line(b"halted", entry(tally, ENDED_RUNS));
     line(b"trapped", entry(tally, ENDED_RUNS + 1));
     line(b"turned away", entry(tally, ENDED_RUNS + 2));
@@ -97,7 +100,7 @@ fn endings(tally: &[u32; 64]) {
     line(b"spent", entry(tally, ENDED_RUNS + 4));
 }
 
-pub fn report(tally: &[u32; 64]) {
+pub(crate) fn report(tally: &[u32; 256]) {
     agreement(
         b"verdicts agree ",
         entry(tally, JUDGED_ALIKE),
@@ -105,8 +108,7 @@ pub fn report(tally: &[u32; 64]) {
     );
     agreement(b"runs agree ", entry(tally, RAN_ALIKE), entry(tally, RAN));
     line(b"accepted", entry(tally, VERDICTS));
-    refusals(tally, b"refused ", VERDICTS, 1, 14);
-    refusals(tally, b"run refused ", REFUSED_RUNS, 1, 8);
-    refusals(tally, b"run refused ", REFUSED_RUNS, 14, 16);
+    refusals(tally, b"refused ", VERDICTS);
+    refusals(tally, b"run refused ", REFUSED_RUNS);
     endings(tally);
 }

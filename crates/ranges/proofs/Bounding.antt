@@ -4,18 +4,21 @@ use mathlib.Core.Path.{_≡_, sym}
 use borrow.Author.Tests.{le-leb, lt-leb, lt-ltb, le-ltb}
 use Rattle.model.specs.declared.Range.{Range}
 use Rattle.model.specs.Words.{arithmeticShift}
-use Rattle.model.specs.Ranges.{range, anything, insideOr, sarRange}
+use Rattle.model.specs.Ranges.{range, anything, guardRange, sarRange}
 
 -- guard: a range that reaches below the region, one that reaches above it, and one inside it
 module _ (region x : Range) where
-  pub reaches-below : x .low < region .low → region ≡ insideOr region x
+  pub reaches-below : x .low < region .low → region ≡ guardRange region x
+  unfolding guardRange
   reaches-below below = sym (rw (lt-leb (region .low) (x .low) below))
 
   module _ (starts : region .low ≤ x .low) where
-    pub reaches-above : region .high < x .high → region ≡ insideOr region x
+    pub reaches-above : region .high < x .high → region ≡ guardRange region x
+    unfolding guardRange
     reaches-above above = sym (rw (le-leb (region .low) (x .low) starts, lt-leb (x .high) (region .high) above))
 
-    pub lies-inside : x .high ≤ region .high → x ≡ insideOr region x
+    pub lies-inside : x .high ≤ region .high → x ≡ guardRange region x
+    unfolding guardRange
     lies-inside ends = sym (rw (le-leb (region .low) (x .low) starts, le-leb (x .high) (region .high) ends))
 
 -- sar: a range below 2^31, one from there on, and one on both sides

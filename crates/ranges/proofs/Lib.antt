@@ -1,4 +1,5 @@
 pub mod Bounding
 pub mod Cutting
+pub mod Displacements
 pub mod Raised
 pub mod Registers

@@ -88,25 +88,29 @@ module _ (l h : ℕ) where
         (λ above below. refl)
         (λ above above-too. naturals-apart (l - modulus) (h - modulus) (omega arith) (omega arith) (λ same. apart (omega arith)))
 
+-- rule W on two raised ends is rule W on what they stand for
+pub by-ends : {low high l h : ℤ} {r : Range} → r ≡ ruleW low high → low ≡ l → high ≡ h → r ≡ ruleW l h
+by-ends made is-low is-high = made ∙ ap₂ ruleW is-low is-high
+
 -- the raised end of a sum
-pub raised-sum : (x y a b : ℕ) → a ≡ x → b ≡ y → subℕ (modulus + a + b) modulus ≡ pos x +ℤ pos y
-raised-sum x y a b is-x is-y = natural (modulus + a + b) (omega arith) ∙ ap pos (omega arith)
+pub raised-sum : (x y : ℕ) → subℕ (modulus + (x + y)) modulus ≡ pos x +ℤ pos y
+raised-sum x y = natural (modulus + (x + y)) (omega arith) ∙ ap pos (omega arith)
 
 -- and of a difference
-pub raised-difference : (x y a b : ℕ) → a ≡ x → b ≡ y → b ≤ modulus → subℕ (modulus + a - b) modulus ≡ subℕ x y
-raised-difference x y a b is-x is-y small =
-    by-cond (λ (z : ℤ). subℕ (modulus + a - b) modulus ≡ z) (ltb x y)
-    (λ t. let below : x < y = ltb-true x y t in negative (modulus + a - b) (omega arith) ∙ ap negsuc (omega arith))
-    (λ f. let above : y ≤ x = ltb-false x y f in natural (modulus + a - b) (omega arith) ∙ ap pos (omega arith))
+pub raised-difference : (x y : ℕ) → y ≤ modulus → subℕ (modulus + x - y) modulus ≡ subℕ x y
+raised-difference x y small =
+    by-cond (λ (z : ℤ). subℕ (modulus + x - y) modulus ≡ z) (ltb x y)
+    (λ t. let below : x < y = ltb-true x y t in negative (modulus + x - y) (omega arith) ∙ ap negsuc (omega arith))
+    (λ f. let above : y ≤ x = ltb-false x y f in natural (modulus + x - y) (omega arith) ∙ ap pos (omega arith))
 
 -- and of an end with a signed displacement z: the exact sum, raised
 abbrev raised : ℕ → ℤ → ℕ
-raised x (pos n) = modulus + x + n
+raised x (pos n) = modulus + (x + n)
 raised x (negsuc n) = modulus + x - suc n
 
 raised-stands-for : (x : ℕ) (z : ℤ) → SFits w32 z → subℕ (raised x z) modulus ≡ pos x +ℤ z
-raised-stands-for x (pos n) fit = raised-sum x n x n refl refl
-raised-stands-for x (negsuc n) fit = raised-difference x (suc n) x (suc n) refl refl (omega (arith, fit .sfits))
+raised-stands-for x (pos n) fit = raised-sum x n
+raised-stands-for x (negsuc n) fit = raised-difference x (suc n) (omega (arith, fit .sfits))
 
 pub widened-fits : (z : ℤ) → SFits w32 z → SFits w64 (toZ w32 (ofZ w32 z))
 widened-fits z fit = rw (toZ-ofZ w32 z fit) (record { sfits = omega (arith, fit .sfits) })
@@ -159,7 +163,3 @@ module _ (x : ℕ) (small : x < modulus) where
 
     pub result-raised : (subℕ (natAbs (toZ w64 (ofZ w64 lifted))) modulus ≡ pos x +ℤ z) × (natAbs (toZ w64 (ofZ w64 lifted)) < 0x3_0000_0000)
     result-raised = rw result-is (raised-stands-for x z fit, raised-below z fit)
-
--- an end that was displaced by what was kept as bits
-pub kept-displacement : (x : ℕ) (e z : ℤ) → SFits w32 z → e ≡ pos x +ℤ toZ w32 (ofZ w32 z) → e ≡ pos x +ℤ z
-kept-displacement x e z fit made = made ∙ ap (λ (y : ℤ). pos x +ℤ y) (toZ-ofZ w32 z fit)

@@ -1,25 +1,24 @@
 // The ranges of and, guard and shifts.
+use crate::cuts::smaller;
 use model::Range;
 ghost use mathlib.Core.Path.{_≡_};
 ghost use Prim.Native.Nat.{min};
 ghost use Rattle.model.specs.Words.{arithmeticShift};
-ghost use Rattle.model.specs.Ranges.{range, insideOr, shrRange, sarRange};
+ghost use Rattle.model.specs.Ranges.{range, guardRange, shrRange, sarRange};
 
 // andi: "0 to the smaller of highest a and imm"
-pub fn andi(x: Range, imm: u32) -> Range
+pub(crate) fn andi(x: Range, imm: u32) -> Range
     ensures { λ r. ⌜ r ≡ range 0 (min (x .high) imm) ⌝ }
 {
-    let high = x.high;
-    if high < imm {
-        Range { low: 0, high }
-    } else {
-        Range { low: 0, high: imm }
+    Range {
+        low: 0,
+        high: smaller(x.high, imm),
     }
 }
 
-// guard: "unchanged if inside the region, else DB to DL"; the region is given as DB to DL
-pub fn guard(region: Range, x: Range) -> Range
-    ensures { λ r. ⌜ r ≡ insideOr region x ⌝ }
+// guard: "unchanged if inside the region, else DB to DL"
+pub(crate) fn guard(region: Range, x: Range) -> Range
+    ensures { λ r. ⌜ r ≡ guardRange region x ⌝ }
 {
     if x.low < region.low {
         return region;
@@ -31,7 +30,7 @@ pub fn guard(region: Range, x: Range) -> Range
 }
 
 // shr: "both ends shifted"
-pub fn shr(x: Range, amount: u8) -> Range
+pub(crate) fn shr(x: Range, amount: u8) -> Range
     ensures { λ r. ⌜ r ≡ shrRange x amount ⌝ }
 {
     Range {
@@ -41,7 +40,7 @@ pub fn shr(x: Range, amount: u8) -> Range
 }
 
 // sar: "both ends shifted if both lie on one side of 2^31, else anything"
-pub fn sar(x: Range, amount: u8) -> Range
+pub(crate) fn sar(x: Range, amount: u8) -> Range
     ensures { λ r. ⌜ r ≡ sarRange x amount ⌝ }
 {
     if x.high < 0x8000_0000 {

@@ -1,20 +1,14 @@
 // Cuts, and rule B.
 use crate::knowledge::put;
 use crate::knowledge::range_of;
+use model::Pair;
 use model::Range;
 use model::Ranges;
 use model::Test;
 ghost use mathlib.Core.Path.{_≡_};
 ghost use mathlib.Core.Bool.{true, false};
 ghost use Prim.Native.Nat.{min, max};
-ghost use Rattle.model.specs.Ranges.{common, isEmpty, ruleB};
-ghost use Rattle.ranges.specs.Pairs.{cutRange, cutRanges, cutPair};
-
-// Two registers' ranges.
-pub struct Pair {
-    pub first: Range,
-    pub second: Range,
-}
+ghost use Rattle.model.specs.Ranges.{common, isEmpty, cut, cutBoth, cutFor, ruleB};
 
 fn larger(x: u32, y: u32) -> u32
     ensures { λ r. ⌜ r ≡ max x y ⌝ }
@@ -22,7 +16,7 @@ fn larger(x: u32, y: u32) -> u32
     if x < y { y } else { x }
 }
 
-fn smaller(x: u32, y: u32) -> u32
+pub(crate) fn smaller(x: u32, y: u32) -> u32
     ensures { λ r. ⌜ r ≡ min x y ⌝ }
 {
     if x < y { x } else { y }
@@ -44,9 +38,9 @@ fn is_empty(x: Range) -> bool
     x.high < x.low
 }
 
-// A range is cut to another, unless nothing would be left of it.
-pub fn cut(x: Range, to: Range) -> Range
-    ensures { λ r. ⌜ r ≡ cutRange x to ⌝ }
+// A range is cut to another: "if any cut would leave an empty range, none of that cut is made".
+pub(crate) fn cut(x: Range, to: Range) -> Range
+    ensures { λ r. ⌜ r ≡ cut x to ⌝ }
 {
     let left = common(x, to);
     if is_empty(left) { x } else { left }
@@ -54,21 +48,19 @@ pub fn cut(x: Range, to: Range) -> Range
 
 // x is cut to p and y to q, both or none.
 fn cut_both(x: Range, p: Range, y: Range, q: Range) -> Pair
-    ensures { λ r. ⌜ r ≡ cutRanges x p y q ⌝ }
+    ensures { λ r. ⌜ r ≡ cutBoth x p y q ⌝ }
 {
+    let uncut = Pair {
+        first: x,
+        second: y,
+    };
     let left = common(x, p);
     let right = common(y, q);
     if is_empty(left) {
-        return Pair {
-            first: x,
-            second: y,
-        };
+        return uncut;
     }
     if is_empty(right) {
-        return Pair {
-            first: x,
-            second: y,
-        };
+        return uncut;
     }
     Pair {
         first: left,
@@ -76,26 +68,25 @@ fn cut_both(x: Range, p: Range, y: Range, q: Range) -> Pair
     }
 }
 
-// Rule B on the ranges of two registers that differ, along the taken edge.
+// Rule B on the ranges of two registers that differ, along the taken edge. "Equal and taken: each is cut to the common part."
+// "Unsigned and taken: a at most highest b − 1, b at least lowest a + 1."
 fn cut_taken(test: Test, x: Range, y: Range) -> Pair
-    ensures { λ r. ⌜ r ≡ cutPair test true x y ⌝ }
+    ensures { λ r. ⌜ r ≡ cutFor test true x y ⌝ }
 {
+    let uncut = Pair {
+        first: x,
+        second: y,
+    };
     match test {
         Test::Equal => cut_both(x, y, y, x),
         Test::Below => {
             let low = x.low;
             let high = y.high;
             if high == 0 {
-                return Pair {
-                    first: x,
-                    second: y,
-                };
+                return uncut;
             }
             if low == 0xFFFF_FFFF {
-                return Pair {
-                    first: x,
-                    second: y,
-                };
+                return uncut;
             }
             cut_both(
                 x,
@@ -110,22 +101,21 @@ fn cut_taken(test: Test, x: Range, y: Range) -> Pair
                 },
             )
         }
-        Test::SignedBelow => Pair {
-            first: x,
-            second: y,
-        },
+        Test::SignedBelow => uncut,
     }
 }
 
-// The same along the edge to the next index.
+// Along the edge to the next index. "Equal and not taken: nothing." "Unsigned and not taken: a at least lowest b, b at most
+// highest a."
 fn cut_next(test: Test, x: Range, y: Range) -> Pair
-    ensures { λ r. ⌜ r ≡ cutPair test false x y ⌝ }
+    ensures { λ r. ⌜ r ≡ cutFor test false x y ⌝ }
 {
+    let uncut = Pair {
+        first: x,
+        second: y,
+    };
     match test {
-        Test::Equal => Pair {
-            first: x,
-            second: y,
-        },
+        Test::Equal => uncut,
         Test::Below => cut_both(
             x,
             Range {
@@ -138,16 +128,13 @@ fn cut_next(test: Test, x: Range, y: Range) -> Pair
                 high: x.high,
             },
         ),
-        Test::SignedBelow => Pair {
-            first: x,
-            second: y,
-        },
+        Test::SignedBelow => uncut,
     }
 }
 
-// Rule B on the ranges of two registers that differ.
-pub fn cut_pair(test: Test, taken: bool, x: Range, y: Range) -> Pair
-    ensures { λ r. ⌜ r ≡ cutPair test taken x y ⌝ }
+// Along either edge.
+fn cut_for(test: Test, taken: bool, x: Range, y: Range) -> Pair
+    ensures { λ r. ⌜ r ≡ cutFor test taken x y ⌝ }
 {
     if taken {
         cut_taken(test, x, y)
@@ -156,13 +143,13 @@ pub fn cut_pair(test: Test, taken: bool, x: Range, y: Range) -> Pair
     }
 }
 
-// Rule B.
-pub fn rule_b(test: Test, taken: bool, a: u8, b: u8, k: Ranges) -> Ranges
-    ensures { λ z. ⌜ z ≡ ruleB test taken a b k ⌝ }
+// "Rule B: where a and b are the same register, or w is 2, nothing is cut."
+pub(crate) fn rule_b(test: Test, taken: bool, a: u8, b: u8, known: Ranges) -> Ranges
+    ensures { λ r. ⌜ r ≡ ruleB test taken a b known ⌝ }
 {
     if a == b {
-        return k;
+        return known;
     }
-    let pair = cut_pair(test, taken, range_of(k, a), range_of(k, b));
-    put(put(k, a, pair.first), b, pair.second)
+    let pair = cut_for(test, taken, range_of(known, a), range_of(known, b));
+    put(put(known, a, pair.first), b, pair.second)
 }

@@ -1,6 +1,7 @@
-// The verifier's knowledge, a record of eight ranges, and the rules that change it: rule W, the bounds of and, guard and shifts,
-// cuts and rule B. Everything takes any ranges, and is passed and returned by value, or lent as two arrays (range_at, put_at).
-pub mod bounds;
-pub mod cuts;
+// The verifier's knowledge, a record of eight ranges, and what each instruction makes of it: document 01's table, right column.
+// Everything takes any ranges, and is passed and returned by value.
+mod bounds;
+mod cuts;
+pub mod edges;
 pub mod knowledge;
 pub mod sums;

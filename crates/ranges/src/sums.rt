@@ -7,17 +7,11 @@ ghost use lib.IntN.{pos, _+ℤ_, subℕ};
 ghost use Rattle.model.specs.Words.{modulus};
 ghost use Rattle.model.specs.Ranges.{ruleW};
 
-// 2^32.
-const WORDS: u64 = 0x1_0000_0000;
+// 2^32, by which ends are raised.
+pub const WORDS: u64 = 0x1_0000_0000;
 
-// By which a signed sum is raised: 2^32 too.
+// The same for a signed sum.
 const RAISE: i64 = 0x1_0000_0000;
-
-fn wide(x: u32) -> u64
-    ensures { λ r. ⌜ (r ≡ x) × (r < modulus) ⌝ }
-{
-    x as u64
-}
 
 // Rule W on two raised ends.
 fn rule_w(low: u64, high: u64) -> Range
@@ -36,24 +30,18 @@ fn rule_w(low: u64, high: u64) -> Range
     }
 }
 
-// add: "rule W on the two sums of ends"
-pub fn add(x: Range, y: Range) -> Range
-    ensures { λ r. ⌜ r ≡ ruleW (pos (x .low) +ℤ pos (y .low)) (pos (x .high) +ℤ pos (y .high)) ⌝ }
+// The sum of two ends, raised.
+fn sum_of_ends(x: u32, y: u32) -> u64
+    ensures { λ r. ⌜ (subℕ r modulus ≡ pos x +ℤ pos y) × (r < 0x3_0000_0000) ⌝ }
 {
-    rule_w(
-        WORDS + wide(x.low) + wide(y.low),
-        WORDS + wide(x.high) + wide(y.high),
-    )
+    WORDS + (x as u64 + y as u64)
 }
 
-// sub: "rule W on lowest a − highest b, highest a − lowest b"
-pub fn sub(x: Range, y: Range) -> Range
-    ensures { λ r. ⌜ r ≡ ruleW (subℕ (x .low) (y .high)) (subℕ (x .high) (y .low)) ⌝ }
+// The difference of two ends, raised.
+fn difference_of_ends(x: u32, y: u32) -> u64
+    ensures { λ r. ⌜ (subℕ r modulus ≡ subℕ x y) × (r < 0x3_0000_0000) ⌝ }
 {
-    rule_w(
-        WORDS + wide(x.low) - wide(y.high),
-        WORDS + wide(x.high) - wide(y.low),
-    )
+    WORDS + x as u64 - y as u64
 }
 
 // An end plus a signed displacement, raised.
@@ -63,9 +51,26 @@ pub fn displaced_end(end: u32, imm: i32) -> u64
     ((end as i64) + (imm as i64) + RAISE) as u64
 }
 
+// add: "rule W on the two sums of ends"
+pub(crate) fn add(x: Range, y: Range) -> Range
+    ensures { λ r. ⌜ r ≡ ruleW (pos (x .low) +ℤ pos (y .low)) (pos (x .high) +ℤ pos (y .high)) ⌝ }
+{
+    rule_w(sum_of_ends(x.low, y.low), sum_of_ends(x.high, y.high))
+}
+
 // addi: "rule W on both ends plus imm"
-pub fn addi(x: Range, imm: i32) -> Range
+pub(crate) fn addi(x: Range, imm: i32) -> Range
     ensures { λ r. ⌜ r ≡ ruleW (pos (x .low) +ℤ imm) (pos (x .high) +ℤ imm) ⌝ }
 {
     rule_w(displaced_end(x.low, imm), displaced_end(x.high, imm))
+}
+
+// sub: "rule W on lowest a − highest b, highest a − lowest b"
+pub(crate) fn sub(x: Range, y: Range) -> Range
+    ensures { λ r. ⌜ r ≡ ruleW (subℕ (x .low) (y .high)) (subℕ (x .high) (y .low)) ⌝ }
+{
+    rule_w(
+        difference_of_ends(x.low, y.high),
+        difference_of_ends(x.high, y.low),
+    )
 }

@@ -89,9 +89,9 @@ module _ (file : List ℕ) (at tag : ℕ) where
       unfolding fieldReportOf
       value-met = rw is at named
 
-      place : (start ≡ valueAt at) × (end ≡ fieldEnd file at)
+      pub value-place : (start ≡ valueAt at) × (end ≡ fieldEnd file at)
       unfolding fieldReportOf fieldJudged
-      place =
+      value-place =
           let same : value start end ≡ value (valueAt at) (fieldEnd file at) = rw (is, ← value-met) at reported in
           ((cc), (cc))
 
@@ -100,13 +100,13 @@ module _ (file : List ℕ) (at tag : ℕ) where
       value-within =
           let met = none-iff-met (field file at tag) .0 (sym value-met) .1 .1 .1 .0 in
           let fits = leb-true (fieldEnd file at) (length file) met in
-          (omega (arith, place .0, place .1), omega (arith, place .1))
+          (omega (arith, value-place .0, value-place .1), omega (arith, value-place .1))
 
       pub value-is : take (end - start) (drop start file) ≡ fieldValue file at tag
       unfolding fieldValue
       value-is =
-          let long : end - start ≡ fieldLength file at = omega (arith, place .0, place .1) in
-          rw (← value-met, long, place .0)
+          let long : end - start ≡ fieldLength file at = omega (arith, value-place .0, value-place .1) in
+          rw (← value-met, long, value-place .0)
 
     module _ (x : Refusal) (is : r ≡ Refused x) where
       pub refused-names : some (faultOf x) ≡ firstFault (field file at tag)

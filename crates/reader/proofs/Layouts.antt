@@ -1,4 +1,4 @@
--- The layout: what is read is the layout of the file, the sizes that the code lists are those of the definition, and each test
+-- The layout: what is read is the layout of the bytes, the sizes that the code lists are those of the definition, and each test
 -- of the code is one of the definition's. Assumes nothing.
 use Prim.Native.Nat.{ℕ, zero, suc, _+_, _%_, _^_, _≤_, _<_}
 use mathlib.Core.Path.{_≡_, sym}
@@ -12,13 +12,13 @@ use lib.Dec.{leb}
 use Rattle.model.specs.declared.Layout.{Layout}
 use Rattle.model.specs.Quantifiers.{anyBelow}
 use Rattle.model.specs.Words.{modulus, readBytes}
-use Rattle.model.specs.File.{layoutIn, isRegionSize, isLayout}
+use Rattle.model.specs.File.{layoutOf, isRegionSize, isLayout}
 use Rattle.model.proofs.Reflection.{Reflects, eq-reflects, anyBelow-reflects}
 use Rattle.model.proofs.Loops.{fails}
 
-pub layout-is : (file : List ℕ) (b s g : ℕ) → b ≡ readBytes 4 file 3 → s ≡ readBytes 4 file 7 → g ≡ readBytes 4 file 11
-    → record { base = b; size = s; guard = g } ≡ layoutIn file
-layout-is file b s g base size guard = rw (base, size, guard)
+pub layout-is : (bytes : List ℕ) (b s g : ℕ) → b ≡ readBytes 4 bytes 0 → s ≡ readBytes 4 bytes 4 → g ≡ readBytes 4 bytes 8
+    → record { base = b; size = s; guard = g } ≡ layoutOf bytes
+layout-is bytes b s g base size guard = rw (base, size, guard)
 
 -- P of i, or of i + 1, and so on up to i + n
 abbrev pub OneFrom : (ℕ → Type 0) → ℕ → ℕ → Type 0

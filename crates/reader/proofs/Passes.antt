@@ -1,97 +1,83 @@
--- One check after another, over the whole file: the indexes that a loop judges, what is judged behind a part, the rules behind the
--- fields, and what a reading tells. By the laws of first faults. Assumes nothing.
-use Prim.Native.Nat.{ℕ, _+_, _-_, _≤_, _<_}
-use mathlib.Core.Path.{_≡_, sym, _∙_}
-use mathlib.Core.Bool.{Bool, true, false}
-use mathlib.Core.List.{List, [], _∷_, _++_}
+-- What a reading tells: where a module is held, its file keeps rules 1 to 7, and its stretches are what machine and verifier go on
+-- with; and a refusal is the first fault. Assumes nothing.
+use Prim.Native.Nat.{ℕ}
+use mathlib.Core.Path.{_≡_, refl, sym, ap, _∙_}
+use mathlib.Core.List.{List}
 use mathlib.Core.Option.{Option, none, some}
-use borrow.Author.Tests.{eq-eqb, ne-eqb}
-use lib.ListN.{length}
+use native.Mathlib.Omega.{arith}
 use Rattle.model.specs.declared.Layout.{Layout}
 use Rattle.model.specs.declared.Refusal.{Refusal}
 use Rattle.model.specs.Answers.{faultOf}
-use Rattle.model.specs.Obligations.{Fault, Obligation, fault, owes, firstFault, eachFrom, each}
-use Rattle.model.specs.Words.{readBytes}
-use Rattle.model.specs.File.{fieldEnd, targetsAt, instructionCount, targetCount, layoutIn, isLayout, readable}
+use Rattle.model.specs.Obligations.{Fault, firstFault}
+use Rattle.model.specs.File.{codeIn, targetsIn, instructionCount, targetCount, layoutIn, readable}
 use Rattle.model.specs.Rules.{FileKept}
 use Rattle.model.proofs.Accepted.{readable-iff}
-use Rattle.model.proofs.Faults.{head-met, head-unmet, one-met, append-faultless, append-faulty, index-faultless, index-faulty, indexes-done, indexes-start}
-use Rattle.reader.specs.declared.check.Check.{Check}
-use Rattle.reader.specs.declared.check.Check.the-variants.{Met, Unmet}
-use Rattle.reader.specs.declared.read.Parsed.the-variants.{Module, Refused}
-use Rattle.reader.specs.Checks.{faultIn}
-use Rattle.reader.specs.Readings.{tableRules, restRules, reading, readingOf}
+use Rattle.model.proofs.Stretches.{code-whole, targets-whole}
+use Rattle.reader.specs.declared.read.Parsed.{Parsed}
+use Rattle.reader.specs.declared.read.Parsed.the-variants as Parseds
+use Rattle.reader.specs.declared.read.Reading.{Reading}
+use Rattle.reader.specs.Readings.{holds, refused, readReport, reading, readingOf, Loaded}
 
--- the first fault where every index from i on, below n, owes a test by a rule; and where every index below n does
-abbrev pub faultFrom : ℕ → (ℕ → Bool) → ℕ → ℕ → Option Fault
-faultFrom rule test n i = firstFault (eachFrom i (n - i) (λ k. owes rule k (test k) ∷ []))
+pub record ReadFacts (file : List ℕ) (l : Layout) (n k : ℕ) : Type 0 where
+  pub kept : FileKept file
+  pub is-layout : l ≡ layoutIn file
+  pub is-count : n ≡ instructionCount (codeIn file)
+  pub is-targets : k ≡ targetCount (targetsIn file)
+  pub loaded : Loaded l (codeIn file) (targetsIn file) n k
+  pub faultless : firstFault (readable file) ≡ none
 
-abbrev pub faultBelow : ℕ → (ℕ → Bool) → ℕ → Option Fault
-faultBelow rule test n = firstFault (each n (λ k. owes rule k (test k) ∷ []))
-
-module _ (rule : ℕ) (test : ℕ → Bool) (n : ℕ) where
-  pub indexes-begin : faultFrom rule test n 0 ≡ faultBelow rule test n
-  indexes-begin = indexes-start _ n
-
-  module _ (i : ℕ) (so-far : faultFrom rule test n i ≡ faultBelow rule test n) where
-    pub index-fails : i < n → test i ≡ false → some (fault rule i) ≡ faultBelow rule test n
-    index-fails below failed = sym (index-faulty _ i n _ below (head-unmet _ _ failed)) ∙ so-far
-
-    pub index-passes : i < n → test i ≡ true → faultFrom rule test n (i + 1) ≡ faultBelow rule test n
-    index-passes below passed = sym (index-faultless _ i n below (one-met _ passed)) ∙ so-far
-
-    pub indexes-pass : n ≤ i → none ≡ faultBelow rule test n
-    indexes-pass past = sym (indexes-done _ i n past) ∙ so-far
-
--- a part that is checked, and what is judged behind it
-module _ (part later : List Obligation) (r : Check) (is-part : faultIn r ≡ firstFault part) where
-  pub part-met : r ≡ Met → firstFault later ≡ firstFault (part ++ later)
-  unfolding faultIn
-  part-met met = sym (append-faultless part later (sym (rw met at is-part)))
-
-  pub part-unmet : (x : Refusal) → r ≡ Unmet x → faultIn (Unmet x) ≡ firstFault (part ++ later)
-  unfolding faultIn
-  part-unmet x unmet = sym (append-faulty part later (faultOf x) (sym (rw unmet at is-part)))
-
--- where the fields end, and what is judged behind them
 module _ (file : List ℕ) where
-  pub end-is : (at n : ℕ) → at ≡ targetsAt file → n ≡ readBytes 2 file (at + 1) → at + 3 + n ≡ fieldEnd file (targetsAt file)
-  end-is at n is-at is-length = rw (is-length, is-at)
+  -- a file that keeps rules 1 to 7
+  kept-loaded : FileKept file
+      → Loaded (layoutIn file) (codeIn file) (targetsIn file) (instructionCount (codeIn file)) (targetCount (targetsIn file))
+  kept-loaded kept =
+      let code = code-whole file kept in
+      let targets = targets-whole file kept in
+      record {
+        kept = kept .holds;
+        code-whole = omega (arith, code .3);
+        targets-whole = omega (arith, targets .3);
+        n-some = omega (arith, code .1, code .3);
+        n-most = omega (arith, code .2, code .3);
+        k-some = omega (arith, targets .1, targets .3);
+        k-most = omega (arith, targets .2, targets .3);
+      }
 
-  module _ (end : ℕ) (is-end : end ≡ fieldEnd file (targetsAt file)) where
-    pub bytes-left : (length file ≡ end → ⊥) → some (fault 4 end) ≡ firstFault (restRules file)
-    bytes-left longer = rw is-end (sym (head-unmet _ _ (ne-eqb _ _ (λ e. longer (e ∙ sym is-end)))))
+  pub read-holds : (l : Layout) (n k : ℕ) → reading file ≡ holds l n k → ReadFacts file l n k
+  unfolding reading
+  read-holds l n k is = by-fault (firstFault (readable file)) refl is
+    where
+      by-fault : (found : Option Fault) → firstFault (readable file) ≡ found → readReport file found ≡ holds l n k → ReadFacts file l n k
+      by-fault none passed same =
+          let kept : FileKept file = readable-iff file .0 passed in
+          let is-layout : l ≡ layoutIn file = cc in
+          let is-n : n ≡ instructionCount (codeIn file) = cc in
+          let is-k : k ≡ targetCount (targetsIn file) = cc in
+          record {
+            kept = kept;
+            is-layout = is-layout;
+            is-count = is-n;
+            is-targets = is-k;
+            loaded = rw (is-layout, is-n, is-k) (kept-loaded kept);
+            faultless = passed;
+          }
+      by-fault (some f) named same = absurd (let z : _≡_ {A = ℕ} 0 1 = cc in omega arith)
 
-    module _ (ends : length file ≡ end) where
-      past-end : firstFault (restRules file) ≡ firstFault (owes 5 0 (isLayout (layoutIn file)) ∷ tableRules file)
-      past-end = head-met _ _ (eq-eqb _ _ (ends ∙ is-end))
+  pub read-refuses : (f : Fault) → reading file ≡ refused f → firstFault (readable file) ≡ some f
+  unfolding reading
+  read-refuses f is = by-fault (firstFault (readable file)) refl is
+    where
+      by-fault : (found : Option Fault) → firstFault (readable file) ≡ found → readReport file found ≡ refused f
+          → firstFault (readable file) ≡ some f
+      by-fault none passed same = absurd (let z : _≡_ {A = ℕ} 0 1 = cc in omega arith)
+      by-fault (some g) named same = let this : g ≡ f = cc in named ∙ ap some this
 
-      pub layout-fails : isLayout (layoutIn file) ≡ false → some (fault 5 0) ≡ firstFault (restRules file)
-      layout-fails failed = sym (past-end ∙ head-unmet _ _ failed)
+  -- and the same of what the reader answers
+  module _ (p : Parsed) (answers : readingOf p ≡ reading file) where
+    pub parsed-holds : (r : Reading) → p ≡ Parseds.Module r → ReadFacts file (r .layout) (r .instructions) (r .targets)
+    unfolding readingOf
+    parsed-holds r is = read-holds (r .layout) (r .instructions) (r .targets) (sym answers ∙ ap readingOf is)
 
-      pub layout-passes : isLayout (layoutIn file) ≡ true → firstFault (tableRules file) ≡ firstFault (restRules file)
-      layout-passes passed = sym (past-end ∙ head-met _ _ passed)
-
--- what the check of a file tells: that it keeps rules 1 to 7, or the first fault; and so what is read of it
-module _ (file : List ℕ) (r : Check) (is-fault : faultIn r ≡ firstFault (readable file)) where
-  no-fault : r ≡ Met → firstFault (readable file) ≡ none
-  unfolding faultIn
-  no-fault met = sym (rw met at is-fault)
-
-  pub met-kept : r ≡ Met → FileKept file
-  met-kept met = readable-iff file .0 (no-fault met)
-
-  pub unmet-names : (x : Refusal) → r ≡ Unmet x → firstFault (readable file) ≡ some (faultOf x)
-  unfolding faultIn
-  unmet-names x unmet = sym (rw unmet at is-fault)
-
-  pub met-read : r ≡ Met → (l : Layout) (n k at : ℕ) → l ≡ layoutIn file → n ≡ instructionCount file → k ≡ targetCount file
-      → at ≡ targetsAt file
-      → readingOf (Module record { layout = l; instructions = n; targets = k; «targets_at» = at }) ≡ reading file
-  unfolding readingOf reading
-  met-read met l n k at is-layout is-instructions is-targets is-at =
-      rw (no-fault met, is-layout, is-instructions, is-targets, is-at)
-
-  pub unmet-read : (x : Refusal) → r ≡ Unmet x → readingOf (Refused x) ≡ reading file
-  unfolding readingOf reading
-  unmet-read x unmet = rw (unmet-names x unmet)
+    pub parsed-refuses : (x : Refusal) → p ≡ Parseds.Refused x → firstFault (readable file) ≡ some (faultOf x)
+    unfolding readingOf
+    parsed-refuses x is = read-refuses (faultOf x) (sym answers ∙ ap readingOf is)

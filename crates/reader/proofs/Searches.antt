@@ -1,7 +1,7 @@
--- A search in a table of targets: it finds the entry of the first number with the index, and nothing where no entry has it;
--- and what a file that keeps rules 1 to 7 says of its indexes. Assumes nothing.
+-- A search in a table of targets: it finds the entry of the first number with the index, and nothing where no entry has it; and what
+-- a module that keeps rules 5 to 7 has at an index. Assumes nothing.
 use Prim.Native.Nat.{ℕ, zero, suc, _+_, _≤_, _<_}
-use mathlib.Core.Path.{_≡_, refl, ap, _∙_}
+use mathlib.Core.Path.{_≡_, refl, sym, ap, _∙_}
 use mathlib.Core.Bool.{Bool, true, false}
 use mathlib.Core.List.{List}
 use mathlib.Core.Option.{Option, none, some}
@@ -9,10 +9,14 @@ use native.Mathlib.Decide.{ℕ-discrete}
 use native.Mathlib.Omega.{arith}
 use borrow.Author.Tests.{eq-eqb, ne-eqb}
 use lib.Dec.{eqb}
+use Rattle.model.specs.declared.Layout.{Layout}
 use Rattle.model.specs.declared.Target.{Target}
 use Rattle.model.specs.Program.{targetAt}
-use Rattle.model.specs.File.{tabulate, targetCount, targetIndex, targetIn, programIn}
-use Rattle.model.specs.Rules.{FileKept}
+use Rattle.model.specs.File.{tabulate, targetCount, targetIndex, targetIn, programOf}
+use Rattle.model.specs.Rules.{ModuleKept}
+use Rattle.reader.specs.declared.lookup.Lookup.{Lookup}
+use Rattle.reader.specs.Lookups.{Rising, Finds, targetFound}
+use Rattle.reader.specs.Readings.{Loaded}
 
 -- this target, or what is found behind it
 abbrev hereOr : Bool → Target → Option Target → Option Target
@@ -46,27 +50,55 @@ module _ (f : ℕ → Target) (to : ℕ) where
       one-turn from count false (ne-eqb (f from .index) to (other from (omega arith) (omega arith)))
       ∙ table-misses (suc from) count (λ i least most. other i (omega arith) (omega arith))
 
--- a file's indexes rise
-pub indexes-rise : (file : List ℕ) → FileKept file → (i j : ℕ) → i < j → j < targetCount file → targetIndex file i < targetIndex file j
-indexes-rise file kept i zero before below = absurd (omega arith)
-indexes-rise file kept i (suc j) before below =
-    let next : targetIndex file j < targetIndex file (suc j) = kept .targets (suc j) below .rising j refl in
-    same-or-before (ℕ-discrete i j) (λ earlier. indexes-rise file kept i j earlier (omega arith)) next
+-- among the first targets: the one that has the index, where indexes rise; none, where none has it
+module _ (targets : List ℕ) (count to : ℕ) where
+  pub one-there : Rising targets count → (j : ℕ) → j < count → targetIndex targets j ≡ to
+      → targetAt (tabulate 0 count (targetIn targets)) to ≡ some (targetIn targets j)
+  unfolding targetIn
+  one-there rises j below here =
+      table-finds (targetIn targets) to 0 count j (omega arith) (omega arith) here
+      (λ i before same. omega (arith, rises i j before below))
+
+  pub none-there : ((j : ℕ) → j < count → targetIndex targets j ≡ to → ⊥) → targetAt (tabulate 0 count (targetIn targets)) to ≡ none
+  unfolding targetIn
+  none-there other = table-misses (targetIn targets) to 0 count (λ i least most. other i (omega arith))
+
+-- rule 7 has indexes rise
+kept-rises : {l : Layout} {code targets : List ℕ} → ModuleKept l code targets → Rising targets (targetCount targets)
+kept-rises kept i zero before below = absurd (omega arith)
+kept-rises {targets = targets} kept i (suc j) before below =
+    let next : targetIndex targets j < targetIndex targets (suc j) = kept .each-target (suc j) below .rising j refl in
+    same-or-before (ℕ-discrete i j) (λ earlier. kept-rises kept i j earlier (omega arith)) next
   where
-    same-or-before : Dec (i ≡ j) → (i < j → targetIndex file i < targetIndex file j) → targetIndex file j < targetIndex file (suc j)
-        → targetIndex file i < targetIndex file (suc j)
+    same-or-before : Dec (i ≡ j) → (i < j → targetIndex targets i < targetIndex targets j)
+        → targetIndex targets j < targetIndex targets (suc j) → targetIndex targets i < targetIndex targets (suc j)
     same-or-before (yes same) rises next = rw same next
-    same-or-before (no other) rises next = let lower : targetIndex file i < targetIndex file j = rises (omega arith) in omega arith
+    same-or-before (no other) rises next = let lower : targetIndex targets i < targetIndex targets j = rises (omega arith) in omega arith
 
--- the target that a file has at an index: the one whose index it is, and none where it is no target's index
-module _ (file : List ℕ) (to : ℕ) where
-  pub target-there : FileKept file → (j : ℕ) → j < targetCount file → targetIndex file j ≡ to
-      → targetAt (programIn file .targets) to ≡ some (targetIn file j)
-  unfolding programIn targetIn
-  target-there kept j below here =
-      table-finds (targetIn file) to 0 (targetCount file) j (omega arith) (omega arith) here
-      (λ i before same. omega (arith, indexes-rise file kept i j before below))
+module _ {l : Layout} {code targets : List ℕ} {n k : ℕ} (loaded : Loaded l code targets n k) where
+  counted : targetCount targets ≡ k
+  counted = omega (arith, loaded .targets-whole)
 
-  pub no-target : ((j : ℕ) → j < targetCount file → targetIndex file j ≡ to → ⊥) → targetAt (programIn file .targets) to ≡ none
-  unfolding programIn targetIn
-  no-target other = table-misses (targetIn file) to 0 (targetCount file) (λ i least most. other i (omega arith))
+  pub rising : Rising targets k
+  rising i j before below = kept-rises (loaded .kept) i j before (omega (arith, counted))
+
+  -- the module's targets are the first k
+  pub table-is : programOf l code targets .targets ≡ tabulate 0 k (targetIn targets)
+  unfolding programOf
+  table-is = rw counted
+
+  module _ (to : ℕ) where
+    among-first : targetAt (tabulate 0 k (targetIn targets)) to ≡ targetAt (programOf l code targets .targets) to
+    among-first = sym (ap (λ (ts : List Target). targetAt ts to) table-is)
+
+    -- what a search finds is the target that the module has at the index
+    pub found-target : (found : Lookup) → Finds targets k to found
+        → targetFound targets found ≡ targetAt (programOf l code targets .targets) to
+    found-target found finds = finds .rising rising ∙ among-first
+
+    pub target-there : (j : ℕ) → j < k → targetIndex targets j ≡ to
+        → targetAt (programOf l code targets .targets) to ≡ some (targetIn targets j)
+    target-there j below here = sym among-first ∙ one-there targets k to rising j below here
+
+    pub no-target : ((j : ℕ) → j < k → targetIndex targets j ≡ to → ⊥) → targetAt (programOf l code targets .targets) to ≡ none
+    no-target other = sym among-first ∙ none-there targets k to other

@@ -1,40 +1,46 @@
--- What the reader answers of a whole file, in the model's terms. Assumes nothing.
-use Prim.Native.Nat.{ℕ}
-use mathlib.Core.List.{List, [], _∷_, _++_}
+-- What the reader answers of a whole file, in the model's terms, and what machine and verifier go on with. Assumes nothing.
+use Prim.Native.Nat.{ℕ, _*_, _≤_}
+use mathlib.Core.Path.{_≡_}
+use mathlib.Core.List.{List}
 use mathlib.Core.Option.{Option, none, some}
-use lib.Dec.{eqb}
 use lib.ListN.{length}
 use Rattle.model.specs.declared.Layout.{Layout}
-use Rattle.model.specs.Obligations.{Fault, Obligation, owes, firstFault, each}
+use Rattle.model.specs.Obligations.{Fault, firstFault}
 use Rattle.model.specs.Answers.{faultOf}
-use Rattle.model.specs.File.{fieldEnd, targetsAt, instructionCount, targetCount, layoutIn, isLayout, isInstruction, isGoodTarget, readable}
+use Rattle.model.specs.File.{mostInstructions, mostTargets, field, codeStart, targetsAt, codeIn, targetsIn, instructionCount, targetCount, layoutIn, readable}
+use Rattle.model.specs.Rules.{ModuleKept}
 use Rattle.reader.specs.declared.read.Parsed.{Parsed}
 use Rattle.reader.specs.declared.read.Parsed.the-variants as Parseds
 
--- 6 and 7; and 4 and 5 before them: the last parts of what is judged of a file
-abbrev pub tableRules : List ℕ → List Obligation
-tableRules file =
-    each (instructionCount file) (λ i. owes 6 i (isInstruction file i) ∷ [])
-    ++ each (targetCount file) (λ j. owes 7 j (isGoodTarget file j) ∷ [])
+-- the three fields stand whole
+pub record FieldsStand (file : List ℕ) : Type 0 where
+  pub layout-field : firstFault (field file 0 1) ≡ none
+  pub code-field : firstFault (field file codeStart 2) ≡ none
+  pub targets-field : firstFault (field file (targetsAt file) 3) ≡ none
 
-abbrev pub restRules : List ℕ → List Obligation
-restRules file =
-    owes 4 (fieldEnd file (targetsAt file)) (eqb (length file) (fieldEnd file (targetsAt file)))
-    ∷ owes 5 0 (isLayout (layoutIn file))
-    ∷ tableRules file
-
--- layout, counts and the offset of the targets' field, or the first of refusals 1 to 7
+-- layout and counts, or the first of refusals 1 to 7
 pub data ReadReport : Type 0 where
-  holds : Layout → ℕ → ℕ → ℕ → ReadReport
+  holds : Layout → ℕ → ℕ → ReadReport
   refused : Fault → ReadReport
 
 abbrev pub readReport : List ℕ → Option Fault → ReadReport
-readReport file none = holds (layoutIn file) (instructionCount file) (targetCount file) (targetsAt file)
+readReport file none = holds (layoutIn file) (instructionCount (codeIn file)) (targetCount (targetsIn file))
 readReport file (some f) = refused f
 
 unfoldable pub reading : List ℕ → ReadReport
 reading file = readReport file (firstFault (readable file))
 
 unfoldable pub readingOf : Parsed → ReadReport
-readingOf (Parseds.Module r) = holds (r .layout) (r .instructions) (r .targets) (r .«targets_at»)
+readingOf (Parseds.Module r) = holds (r .layout) (r .instructions) (r .targets)
 readingOf (Parseds.Refused r) = refused (faultOf r)
+
+-- what machine and verifier go on with: a layout, n instructions and k targets that keep rules 5 to 7, as the stretches of a file that
+-- keeps rules 1 to 7 are
+pub record Loaded (l : Layout) (code targets : List ℕ) (n k : ℕ) : Type 0 where
+  pub kept : ModuleKept l code targets
+  pub code-whole : length code ≡ 8 * n
+  pub targets-whole : length targets ≡ 68 * k
+  pub n-some : 1 ≤ n
+  pub n-most : n ≤ mostInstructions
+  pub k-some : 1 ≤ k
+  pub k-most : k ≤ mostTargets

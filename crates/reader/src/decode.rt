@@ -3,13 +3,16 @@ use model::Instruction;
 use model::Test;
 use model::Width;
 ghost use mathlib.Core.Path.{_≡_};
-ghost use mathlib.Core.Bool.{true};
-ghost use lib.Dec.{eqb};
-ghost use Rattle.model.specs.declared.Layout.{Layout};
-ghost use Rattle.model.specs.Instructions.{shape, traits};
+ghost use mathlib.Core.Bool.{true, _&&_};
+ghost use mathlib.Core.Option.{some};
+ghost use Prim.Native.Nat.{ℕ, _+_, _≤_};
+ghost use lib.ListN.{length};
+ghost use Rattle.model.specs.declared.Instruction.{Instruction};
+ghost use Rattle.model.specs.declared.Test.{Test};
+ghost use Rattle.model.specs.declared.Width.{Width};
 ghost use Rattle.model.specs.Quantifiers.{anyOf};
-ghost use Rattle.model.specs.File.{isRegister, isAmount, hasNothing, hasA, hasAB, hasAAmount, hasImm, hasAImm, hasABWImm, widthOf, testOf, decode, instructionIn};
-ghost use Rattle.reader.specs.Decoding.{instructionOf, hasABWidth, hasABTest, isEncoding, widthOr, testOr, assembled, assembledIn};
+ghost use Rattle.model.specs.File.{isRegister, isAmount, hasNothing, hasA, hasAB, hasAAmount, hasImm, hasAImm, hasABWImm, widthOf, testOf, provided, decode, instructionAt, instructionIn};
+ghost use Rattle.reader.specs.Decoding.{instructionOf, Fetches};
 
 // The instruction, or that the bytes are none.
 pub enum Decoded {
@@ -17,11 +20,8 @@ pub enum Decoded {
     Not,
 }
 
-// Where the first instruction stands.
-pub(crate) const CODE: usize = 18;
-
-// The opcode of check.
-const CHECK: u8 = 14;
+// The bytes of an instruction.
+pub const INSTRUCTION: usize = 8;
 
 fn is_register(r: u8) -> bool
     ensures { λ x. ⌜ x ≡ isRegister r ⌝ }
@@ -41,17 +41,21 @@ fn is_amount(w: u8) -> bool
     }
 }
 
+// "For load and store w is 1, 2 or 4."
 fn is_width(w: u8) -> bool
-    ensures { λ x. ⌜ x ≡ anyOf (widthOf w) (λ _. true) ⌝ }
+    ensures { λ x. ⌜ x ≡ anyOf (widthOf w) (λ v. true) ⌝ }
 {
     match w {
-        1 | 2 | 4 => true,
+        1 => true,
+        2 => true,
+        4 => true,
         _ => false,
     }
 }
 
+// "For branch w is 0 (a = b), 1 (a < b unsigned) or 2 (a < b signed)."
 fn is_test(w: u8) -> bool
-    ensures { λ x. ⌜ x ≡ anyOf (testOf w) (λ _. true) ⌝ }
+    ensures { λ x. ⌜ x ≡ anyOf (testOf w) (λ t. true) ⌝ }
 {
     match w {
         0..=2 => true,
@@ -91,24 +95,6 @@ fn has_a_b_w_imm(a: u8, b: u8) -> bool
         return false;
     }
     is_register(b)
-}
-
-fn has_a_b_width_imm(a: u8, b: u8, w: u8) -> bool
-    ensures { λ x. ⌜ x ≡ hasABWidth a b w ⌝ }
-{
-    if !has_a_b_w_imm(a, b) {
-        return false;
-    }
-    is_width(w)
-}
-
-fn has_a_b_test_imm(a: u8, b: u8, w: u8) -> bool
-    ensures { λ x. ⌜ x ≡ hasABTest a b w ⌝ }
-{
-    if !has_a_b_w_imm(a, b) {
-        return false;
-    }
-    is_test(w)
 }
 
 fn has_nothing(a: u8, b: u8, w: u8, imm: u32) -> bool
@@ -156,25 +142,38 @@ fn has_a_amount(a: u8, b: u8, w: u8, imm: u32) -> bool
     imm == 0
 }
 
-// Whether an opcode and its operand bytes are an instruction.
-fn is_encoding(op: u8, a: u8, b: u8, w: u8, imm: u32) -> bool
-    ensures { λ x. ⌜ x ≡ isEncoding op a b w imm ⌝ }
+fn has_a_b_width_imm(a: u8, b: u8, w: u8) -> bool
+    ensures { λ x. ⌜ x ≡ hasABWImm a b && anyOf (widthOf w) (λ v. true) ⌝ }
 {
-    match op {
-        0 => has_nothing(a, b, w, imm),
-        1 | 4 | 6 => has_a_imm(a, b, w),
-        2 | 3 | 5 => has_a_b(a, b, w, imm),
-        7 | 14 | 15 => has_a(a, b, w, imm),
-        8 | 9 => has_a_amount(a, b, w, imm),
-        10 | 11 => has_a_b_width_imm(a, b, w),
-        12 => has_imm(a, b, w),
-        13 => has_a_b_test_imm(a, b, w),
-        _ => false,
+    if !has_a_b_w_imm(a, b) {
+        return false;
+    }
+    is_width(w)
+}
+
+fn has_a_b_test_imm(a: u8, b: u8, w: u8) -> bool
+    ensures { λ x. ⌜ x ≡ hasABWImm a b && anyOf (testOf w) (λ t. true) ⌝ }
+{
+    if !has_a_b_w_imm(a, b) {
+        return false;
+    }
+    is_test(w)
+}
+
+// The instruction, if its operands are as they should be.
+fn when(good: bool, instruction: Instruction) -> Decoded
+    ensures { λ x. ⌜ instructionOf x ≡ provided good (some instruction) ⌝ }
+{
+    if good {
+        Decoded::Is { instruction }
+    } else {
+        Decoded::Not
     }
 }
 
+// What w says, once it is known to be a width, or a test.
 fn width_of(w: u8) -> Width
-    ensures { λ x. ⌜ x ≡ widthOr w ⌝ }
+    ensures { λ x. ⌜ ((v : Width) → widthOf w ≡ some v → x ≡ v) ⌝ }
 {
     match w {
         1 => Width::One,
@@ -184,7 +183,7 @@ fn width_of(w: u8) -> Width
 }
 
 fn test_of(w: u8) -> Test
-    ensures { λ x. ⌜ x ≡ testOr w ⌝ }
+    ensures { λ x. ⌜ ((t : Test) → testOf w ≡ some t → x ≡ t) ⌝ }
 {
     match w {
         0 => Test::Equal,
@@ -193,10 +192,71 @@ fn test_of(w: u8) -> Test
     }
 }
 
-// The instruction that an opcode and its operand bytes say, once they are known to be one. Of other bytes only what would name
-// a register, an amount, a width or a test is read.
-pub fn assemble(op: u8, first: u8, second: u8, w: u8, imm: u32) -> Instruction
-    ensures { λ x. ⌜ x ≡ assembled op first second w imm ⌝ }
+// The instruction of an opcode and its operand bytes.
+pub fn decode(op: u8, a: u8, b: u8, w: u8, imm: u32) -> Decoded
+    ensures { λ x. ⌜ instructionOf x ≡ decode op a b w imm ⌝ }
+{
+    match op {
+        0 => when(has_nothing(a, b, w, imm), Instruction::Halt),
+        1 => when(has_a_imm(a, b, w), Instruction::Set { a, imm }),
+        2 => when(has_a_b(a, b, w, imm), Instruction::Copy { a, b }),
+        3 => when(has_a_b(a, b, w, imm), Instruction::Add { a, b }),
+        4 => when(
+            has_a_imm(a, b, w),
+            Instruction::Addi {
+                a,
+                imm: words::arithmetic::to_signed(imm),
+            },
+        ),
+        5 => when(has_a_b(a, b, w, imm), Instruction::Sub { a, b }),
+        6 => when(has_a_imm(a, b, w), Instruction::Andi { a, imm }),
+        7 => when(has_a(a, b, w, imm), Instruction::Guard { a }),
+        8 => when(
+            has_a_amount(a, b, w, imm),
+            Instruction::Shr { a, amount: w },
+        ),
+        9 => when(
+            has_a_amount(a, b, w, imm),
+            Instruction::Sar { a, amount: w },
+        ),
+        10 => when(
+            has_a_b_width_imm(a, b, w),
+            Instruction::Load {
+                a,
+                b,
+                width: width_of(w),
+                imm: words::arithmetic::to_signed(imm),
+            },
+        ),
+        11 => when(
+            has_a_b_width_imm(a, b, w),
+            Instruction::Store {
+                a,
+                b,
+                width: width_of(w),
+                imm: words::arithmetic::to_signed(imm),
+            },
+        ),
+        12 => when(has_imm(a, b, w), Instruction::Jump { to: imm as usize }),
+        13 => when(
+            has_a_b_test_imm(a, b, w),
+            Instruction::Branch {
+                a,
+                b,
+                test: test_of(w),
+                to: imm as usize,
+            },
+        ),
+        14 => when(has_a(a, b, w, imm), Instruction::Check { a }),
+        15 => when(has_a(a, b, w, imm), Instruction::Jumpr { a }),
+        _ => Decoded::Not,
+    }
+}
+
+// The instruction that an opcode and its operand bytes say, once they are known to be one: nothing is tested again. (Of bytes that
+// are no instruction it is whatever the operands' low bits name.)
+fn assemble(op: u8, first: u8, second: u8, w: u8, imm: u32) -> Instruction
+    ensures { λ x. ⌜ ((i : Instruction) → decode op first second w imm ≡ some i → x ≡ i) ⌝ }
 {
     let a = first % 8;
     let b = second % 8;
@@ -238,42 +298,63 @@ pub fn assemble(op: u8, first: u8, second: u8, w: u8, imm: u32) -> Instruction
     }
 }
 
-// The instruction of an opcode and its operand bytes.
-pub fn decode(op: u8, a: u8, b: u8, w: u8, imm: u32) -> Decoded
-    ensures { λ x. ⌜ instructionOf x ≡ decode op a b w imm ⌝ }
+// The bytes of an instruction, and its immediate as a number.
+struct Encoding {
+    op: u8,
+    a: u8,
+    b: u8,
+    w: u8,
+    imm: u32,
+}
+
+// The eight bytes at an offset, where they are all there.
+fn whole_encoding(code: &[u8], at: usize) -> Encoding
+    requires { ⌜ at + 8 ≤ length (now code) ⌝ }
+    ensures { λ e. ⌜ ((i : ℕ) → at ≡ instructionAt i → decode (e .op) (e .a) (e .b) (e .w) (e .imm) ≡ instructionIn (now (code .entry)) i) ⌝ }
 {
-    if is_encoding(op, a, b, w, imm) {
-        Decoded::Is {
-            instruction: assemble(op, a, b, w, imm),
-        }
-    } else {
-        Decoded::Not
+    let imm = words::bytes::little_endian(code[at + 4], code[at + 5], code[at + 6], code[at + 7]);
+    Encoding {
+        op: code[at],
+        a: code[at + 1],
+        b: code[at + 2],
+        w: code[at + 3],
+        imm,
     }
 }
 
-// The instruction at an index of the file, from its eight bytes; bytes past the end are zero.
-pub fn instruction_at(file: &[u8], i: u32) -> Decoded
-    ensures { λ x. ⌜ instructionOf x ≡ instructionIn (now (file .entry)) i ⌝ }
+// The eight bytes of an index; those past the end are zero.
+fn encoding_at(code: &[u8], i: u32) -> Encoding
+    ensures { λ e. ⌜ decode (e .op) (e .a) (e .b) (e .w) (e .imm) ≡ instructionIn (now (code .entry)) i ⌝ }
 {
-    let at = CODE + 8 * (i as usize);
-    let op = words::bytes::byte_at(file, at);
-    let a = words::bytes::byte_at(file, at + 1);
-    let b = words::bytes::byte_at(file, at + 2);
-    let w = words::bytes::byte_at(file, at + 3);
-    let imm = words::bytes::read_u32(file, at + 4);
-    decode(op, a, b, w, imm)
+    let at = INSTRUCTION * (i as usize);
+    if at + INSTRUCTION <= code.len() {
+        return whole_encoding(code, at);
+    }
+    Encoding {
+        op: words::bytes::byte_at(code, at),
+        a: words::bytes::byte_at(code, at + 1),
+        b: words::bytes::byte_at(code, at + 2),
+        w: words::bytes::byte_at(code, at + 3),
+        imm: words::bytes::read_u32(code, at + 4),
+    }
 }
 
-// Whether the instruction at an index is a check of a register, by its first bytes alone.
-pub fn is_check_of(file: &[u8], i: u32, a: u8) -> bool
-    ensures { λ x. ⌜ ((l : Layout) → x ≡ anyOf (traits (shape l (assembledIn (now (file .entry)) i)) .looksAt) (eqb a)) ⌝ }
+// The instruction at an index of the code, from its eight bytes; bytes past the end are zero.
+pub fn instruction_at(code: &[u8], i: u32) -> Decoded
+    ensures { λ x. ⌜ instructionOf x ≡ instructionIn (now (code .entry)) i ⌝ }
 {
-    let at = CODE + 8 * (i as usize);
-    if file.len() < at + 8 {
-        return false;
+    let e = encoding_at(code, i);
+    decode(e.op, e.a, e.b, e.w, e.imm)
+}
+
+// The instruction at an index of code that keeps rule 6: nothing is judged again.
+pub fn fetch(code: &[u8], i: u32) -> Instruction
+    ensures { λ x. ⌜ Fetches (now (code .entry)) i x ⌝ }
+{
+    let at = INSTRUCTION * (i as usize);
+    if code.len() < at + INSTRUCTION {
+        return Instruction::Halt;
     }
-    if file[at] != CHECK {
-        return false;
-    }
-    a == file[at + 1] % 8
+    let e = whole_encoding(code, at);
+    assemble(e.op, e.a, e.b, e.w, e.imm)
 }

@@ -1,17 +1,19 @@
 // Fields: "a one-byte tag, a two-byte length and that many bytes of value". Refusals 1, 2 and 3.
-use crate::check::Check;
+use crate::decode::INSTRUCTION;
+use crate::finding::Finding;
+use crate::target::TARGET;
 use model::Refusal;
 use model::Rule;
 ghost use mathlib.Core.Path.{_≡_};
-ghost use Prim.Native.Nat.{_<_};
+ghost use Prim.Native.Nat.{_+_, _≤_, _<_};
 ghost use Rattle.model.specs.Answers.{ruleNumber};
 ghost use Rattle.model.specs.Obligations.{fault, firstFault};
-ghost use Rattle.model.specs.File.{isMultiple, isListed, field, fieldValue};
-ghost use Rattle.reader.specs.Checks.{faultIn};
-ghost use Rattle.reader.specs.Fields.{refused, fieldReportOf, fieldJudged};
+ghost use Rattle.model.specs.File.{fieldEnd, isMultiple, isListed, field};
+ghost use Rattle.reader.specs.Findings.{faultIn};
+ghost use Rattle.reader.specs.Fields.{refused, fieldReportOf, fieldJudged, ValuePart};
 
 // Where the value of a field lies, or the refusal.
-pub enum Field {
+enum Field {
     Value { start: usize, end: usize },
     Refused { refusal: Refusal },
 }
@@ -34,13 +36,13 @@ fn is_multiple(unit: u16, most: u16, n: u16) -> bool
 }
 
 // The lengths that are listed for a tag.
-pub fn is_listed(tag: u8, n: u16) -> bool
+fn is_listed(tag: u8, n: u16) -> bool
     ensures { λ r. ⌜ r ≡ isListed tag n ⌝ }
 {
     match tag {
         1 => n == 12,
-        2 => is_multiple(8, 4096, n),
-        3 => is_multiple(68, 256, n),
+        2 => is_multiple(INSTRUCTION as u16, 4096, n),
+        3 => is_multiple(TARGET as u16, 256, n),
         _ => false,
     }
 }
@@ -54,7 +56,7 @@ fn refusal_of(rule: Rule, place: u32) -> Field
 }
 
 // The field that is due at an offset, with the tag that is due.
-pub fn judge_field(file: &[u8], at: u32, tag: u8) -> Field
+fn locate_field(file: &[u8], at: u32, tag: u8) -> Field
     ensures { λ r. ⌜ fieldReportOf r ≡ fieldJudged (now (file .entry)) at tag ⌝ }
 {
     let start = at as usize;
@@ -83,22 +85,30 @@ pub fn judge_field(file: &[u8], at: u32, tag: u8) -> Field
     }
 }
 
+// The offset behind the field at an offset, where the next one stands.
+pub(crate) fn field_end(file: &[u8], at: u32) -> u32
+    requires { ⌜ at ≤ 0x8000_0000 ⌝ }
+    ensures { λ r. ⌜ (r ≡ fieldEnd (now (file .entry)) at) × (r ≤ at + 65538) ⌝ }
+{
+    at + (HEADER as u32) + (words::bytes::read_u16(file, (at as usize) + 1) as u32)
+}
+
 // The value itself, a part of the file; empty where the field is refused.
 pub fn field_value(file: &[u8], at: u32, tag: u8) -> &[u8]
-    ensures { λ r. ⌜ now r ≡ fieldValue (now (file .entry)) at tag ⌝ }
+    ensures { λ r. ⌜ ValuePart (file .entry) r at tag ⌝ }
 {
-    match judge_field(file, at, tag) {
+    match locate_field(file, at, tag) {
         Field::Value { start, end } => &file[start..end],
         Field::Refused { refusal: _ } => &file[0..0],
     }
 }
 
 // The field judged, with its value left aside.
-pub fn check_field(file: &[u8], at: u32, tag: u8) -> Check
+pub fn check_field(file: &[u8], at: u32, tag: u8) -> Finding
     ensures { λ r. ⌜ faultIn r ≡ firstFault (field (now (file .entry)) at tag) ⌝ }
 {
-    match judge_field(file, at, tag) {
-        Field::Value { start: _, end: _ } => Check::Met,
-        Field::Refused { refusal } => Check::Unmet { refusal },
+    match locate_field(file, at, tag) {
+        Field::Value { start: _, end: _ } => Finding::Met,
+        Field::Refused { refusal } => Finding::Unmet { refusal },
     }
 }

@@ -1,23 +1,23 @@
 // The layout: base, size and guard, and refusal 5.
 use model::Layout;
 ghost use mathlib.Core.Path.{_≡_};
-ghost use Rattle.model.specs.File.{layoutIn, isRegionSize, isLayout};
+ghost use Rattle.model.specs.File.{layoutOf, isRegionSize, isLayout};
 
-// Where base, size and guard stand.
-const BASE: usize = 3;
+// Where base, size and guard stand in the field's value.
+const BASE: usize = 0;
 
-const SIZE: usize = 7;
+const SIZE: usize = 4;
 
-const GUARD: usize = 11;
+const GUARD: usize = 8;
 
-// The layout that the file gives; bytes past the end are zero.
-pub fn layout_in(file: &[u8]) -> Layout
-    ensures { λ r. ⌜ r ≡ layoutIn (now (file .entry)) ⌝ }
+// The layout that the bytes give; bytes past the end are zero.
+pub fn layout_of(bytes: &[u8]) -> Layout
+    ensures { λ r. ⌜ r ≡ layoutOf (now (bytes .entry)) ⌝ }
 {
     Layout {
-        base: words::bytes::read_u32(file, BASE),
-        size: words::bytes::read_u32(file, SIZE),
-        guard: words::bytes::read_u32(file, GUARD),
+        base: words::bytes::read_u32(bytes, BASE),
+        size: words::bytes::read_u32(bytes, SIZE),
+        guard: words::bytes::read_u32(bytes, GUARD),
     }
 }
 

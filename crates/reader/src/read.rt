@@ -1,36 +1,38 @@
-// The whole module file: refusals 1 to 7, in their order, over one pass.
-use crate::check;
-use crate::check::Check;
-use crate::encoding;
+// The whole module file: refusals 1 to 7 in their order, and the stretches that machine and verifier go on with.
+use crate::decode;
+use crate::decode::Decoded;
 use crate::field;
+use crate::finding;
+use crate::finding::Finding;
 use crate::layout;
 use crate::target;
 use model::Layout;
 use model::Refusal;
 use model::Rule;
 ghost use mathlib.Core.Path.{_≡_};
-ghost use mathlib.Core.List.{[], _∷_};
-ghost use Rattle.model.specs.Obligations.{owes, firstFault, each};
-ghost use Rattle.model.specs.File.{isInstruction, isGoodTarget, targetsAt, fieldEnd, readable};
-ghost use Rattle.reader.specs.Checks.{faultIn};
-ghost use Rattle.reader.specs.Readings.{tableRules, restRules, readingOf, reading};
+ghost use Rattle.model.specs.Answers.{ruleNumber};
+ghost use Rattle.model.specs.Obligations.{fault, firstFault};
+ghost use Rattle.model.specs.File.{codeStart, targetsAt, instructionCount, targetCount, instructionRules, targetRules, moduleRules};
+ghost use Rattle.reader.specs.Fields.{ValuePart};
+ghost use Rattle.reader.specs.Findings.{faultIn};
+ghost use Rattle.reader.specs.Readings.{FieldsStand, readingOf, reading, refused};
 
-// The tags of the three fields, and the offset of the second.
-const LAYOUT: u8 = 1;
+// The tags of the three fields, and the offsets of the first two.
+const LAYOUT_TAG: u8 = 1;
 
-const CODE: u8 = 2;
+const CODE_TAG: u8 = 2;
 
-const TARGETS: u8 = 3;
+const TARGETS_TAG: u8 = 3;
+
+const LAYOUT_AT: u32 = 0;
 
 const CODE_AT: u32 = 15;
 
-// What a readable module holds: its layout, how many instructions and targets, and the offset of the targets' field. (The
-// layout's field stands at 0, the instructions' at 15.)
+// What a readable module holds: its layout, and how many instructions and targets.
 pub struct Reading {
     pub layout: Layout,
     pub instructions: u32,
     pub targets: u32,
-    pub targets_at: u32,
 }
 
 pub enum Parsed {
@@ -38,100 +40,116 @@ pub enum Parsed {
     Refused { refusal: Refusal },
 }
 
-// 6: every instruction below n is one.
-fn check_instructions(file: &[u8], n: u32) -> Check
-    ensures { λ r. ⌜ faultIn r ≡ firstFault (each n (λ i. owes 6 i (isInstruction (now (file .entry)) i) ∷ [])) ⌝ }
+// The code: the value of the second field, a part of the file; empty where the field is refused.
+pub fn code_in(file: &[u8]) -> &[u8]
+    ensures { λ r. ⌜ ValuePart (file .entry) r codeStart 2 ⌝ }
+{
+    field::field_value(file, CODE_AT, CODE_TAG)
+}
+
+// The targets: the value of the third field.
+pub fn targets_in(file: &[u8]) -> &[u8]
+    ensures { λ r. ⌜ ValuePart (file .entry) r (targetsAt (now (file .entry))) 3 ⌝ }
+{
+    field::field_value(file, field::field_end(file, CODE_AT), TARGETS_TAG)
+}
+
+// 6: every instruction of the code is one.
+fn check_instructions(code: &[u8], n: u32) -> Finding
+    requires { ⌜ n ≡ instructionCount (now code) ⌝ }
+    ensures { λ r. ⌜ faultIn r ≡ firstFault (instructionRules (now (code .entry))) ⌝ }
 {
     let mut i = 0;
     while i < n {
-        if !encoding::is_instruction(file, i) {
-            return check::unmet(Rule::BadInstruction, i);
+        let found = decode::instruction_at(code, i);
+        if let Decoded::Not = found {
+            return finding::unmet(Rule::BadInstruction, i);
         }
         i += 1;
     }
-    Check::Met
+    Finding::Met
 }
 
-// 7: every target below k is good.
-fn check_targets(file: &[u8], k: u32) -> Check
-    ensures { λ r. ⌜ faultIn r ≡ firstFault (each k (λ j. owes 7 j (isGoodTarget (now (file .entry)) j) ∷ [])) ⌝ }
+// 7: every target is good, in a module of n instructions.
+fn check_targets(n: u32, targets: &[u8], k: u32) -> Finding
+    requires { ⌜ k ≡ targetCount (now targets) ⌝ }
+    ensures { λ r. ⌜ faultIn r ≡ firstFault (targetRules n (now (targets .entry))) ⌝ }
 {
     let mut j = 0;
     while j < k {
-        if !target::is_good_target(file, j) {
-            return check::unmet(Rule::BadTarget, j);
+        if !target::is_good_target(n, targets, j) {
+            return finding::unmet(Rule::BadTarget, j);
         }
         j += 1;
     }
-    Check::Met
+    Finding::Met
 }
 
-// 6, then 7.
-fn check_tables(file: &[u8]) -> Check
-    ensures { λ r. ⌜ faultIn r ≡ firstFault (tableRules (now (file .entry))) ⌝ }
+// 5, 6, 7.
+fn check_module(layout: Layout, code: &[u8], n: u32, targets: &[u8], k: u32) -> Finding
+    requires { ⌜ (n ≡ instructionCount (now code)) × (k ≡ targetCount (now targets)) ⌝ }
+    ensures { λ r. ⌜ faultIn r ≡ firstFault (moduleRules layout (now (code .entry)) (now (targets .entry))) ⌝ }
 {
-    let instructions = check_instructions(file, target::instruction_count(file));
+    if !layout::is_layout(layout) {
+        return finding::unmet(Rule::BadLayout, 0);
+    }
+    let instructions = check_instructions(code, n);
     match instructions {
-        Check::Met => check_targets(file, target::target_count(file)),
-        Check::Unmet { refusal } => Check::Unmet { refusal },
+        Finding::Met => check_targets(n, targets, k),
+        Finding::Unmet { refusal } => Finding::Unmet { refusal },
     }
 }
 
-// Where the third field ends.
-fn fields_end(file: &[u8]) -> u32
-    ensures { λ r. ⌜ r ≡ fieldEnd (now (file .entry)) (targetsAt (now (file .entry))) ⌝ }
+fn refusal_of(rule: Rule, place: u32) -> Parsed
+    ensures { λ r. ⌜ readingOf r ≡ refused (fault (ruleNumber rule) place) ⌝ }
 {
-    let at = target::targets_at(file);
-    at + 3 + (words::bytes::read_u16(file, (at as usize) + 1) as u32)
+    Parsed::Refused {
+        refusal: Refusal { rule, place },
+    }
 }
 
-// 4, then 5, then the tables.
-fn check_rest(file: &[u8]) -> Check
-    ensures { λ r. ⌜ faultIn r ≡ firstFault (restRules (now (file .entry))) ⌝ }
+// The three fields stand: 4, then the module.
+fn read_module(file: &[u8]) -> Parsed
+    requires { ⌜ FieldsStand (now file) ⌝ }
+    ensures { λ r. ⌜ readingOf r ≡ reading (now (file .entry)) ⌝ }
 {
-    let end = fields_end(file);
+    let end = field::field_end(file, field::field_end(file, CODE_AT));
     if file.len() != (end as usize) {
-        return check::unmet(Rule::TrailingBytes, end);
+        return refusal_of(Rule::TrailingBytes, end);
     }
-    if !layout::is_layout(layout::layout_in(file)) {
-        return check::unmet(Rule::BadLayout, 0);
+    let layout = layout::layout_of(field::field_value(file, LAYOUT_AT, LAYOUT_TAG));
+    let code = code_in(file);
+    let targets = targets_in(file);
+    let n = (code.len() / decode::INSTRUCTION) as u32;
+    let k = (targets.len() / target::TARGET) as u32;
+    let checked = check_module(layout, code, n, targets, k);
+    match checked {
+        Finding::Met => Parsed::Module {
+            reading: Reading {
+                layout,
+                instructions: n,
+                targets: k,
+            },
+        },
+        Finding::Unmet { refusal } => Parsed::Refused { refusal },
     }
-    check_tables(file)
 }
 
-// Refusals 1 to 7.
-pub fn check_file(file: &[u8]) -> Check
-    ensures { λ r. ⌜ faultIn r ≡ firstFault (readable (now (file .entry))) ⌝ }
-{
-    let first = field::check_field(file, 0, LAYOUT);
-    if let Check::Unmet { refusal } = first {
-        return Check::Unmet { refusal };
-    }
-    let second = field::check_field(file, CODE_AT, CODE);
-    if let Check::Unmet { refusal } = second {
-        return Check::Unmet { refusal };
-    }
-    let third = field::check_field(file, target::targets_at(file), TARGETS);
-    if let Check::Unmet { refusal } = third {
-        return Check::Unmet { refusal };
-    }
-    check_rest(file)
-}
-
-// A module's bytes: what they hold, or the first refusal.
+// A module's bytes: what they hold, or the first of refusals 1 to 7.
 pub fn read(file: &[u8]) -> Parsed
     ensures { λ r. ⌜ readingOf r ≡ reading (now (file .entry)) ⌝ }
 {
-    let checked = check_file(file);
-    match checked {
-        Check::Met => Parsed::Module {
-            reading: Reading {
-                layout: layout::layout_in(file),
-                instructions: target::instruction_count(file),
-                targets: target::target_count(file),
-                targets_at: target::targets_at(file),
-            },
-        },
-        Check::Unmet { refusal } => Parsed::Refused { refusal },
+    let first = field::check_field(file, LAYOUT_AT, LAYOUT_TAG);
+    if let Finding::Unmet { refusal } = first {
+        return Parsed::Refused { refusal };
     }
+    let second = field::check_field(file, CODE_AT, CODE_TAG);
+    if let Finding::Unmet { refusal } = second {
+        return Parsed::Refused { refusal };
+    }
+    let third = field::check_field(file, field::field_end(file, CODE_AT), TARGETS_TAG);
+    if let Finding::Unmet { refusal } = third {
+        return Parsed::Refused { refusal };
+    }
+    read_module(file)
 }

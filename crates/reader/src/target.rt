@@ -1,168 +1,87 @@
-// Targets (doors): index, kind, claim, and refusal 7.
+// Targets (doors): index, kind, claim, and refusal 7. Each function takes the targets' bytes; bytes past the end are zero.
 use model::Ranges;
-use model::Target;
 ghost use mathlib.Core.Path.{_≡_};
-ghost use Prim.Native.Nat.{_+_, _*_, _<_, _≤_};
+ghost use Prim.Native.Nat.{_+_, _*_, _<_};
 ghost use lib.Dec.{leb};
-ghost use lib.ListN.{length, getD};
+ghost use lib.ListN.{getD};
 ghost use Rattle.model.specs.Quantifiers.{allBelow};
 ghost use Rattle.model.specs.Ranges.{low, high};
 ghost use Rattle.model.specs.Words.{readBytes};
-ghost use Rattle.model.specs.File.{targetsAt, instructionCount, targetCount, targetStart, targetIndex, targetKind, tabulate, claimIn, targetIn, isIndirectClaim, isInOrder, isGoodTarget};
-ghost use Rattle.reader.specs.Lookups.{claimAt};
-
-// Where the length of the instructions' field stands, and where its value begins.
-const CODE_LENGTH: usize = 16;
-
-const CODE: u32 = 18;
+ghost use Rattle.model.specs.File.{targetStart, targetIndex, targetKind, claimIn, isIndirectClaim, isInOrder, isGoodTarget};
 
 // The bytes of a target.
-const TARGET: usize = 68;
+pub const TARGET: usize = 68;
 
 // The kind of an indirect target.
-const INDIRECT: u8 = 1;
-
-// The offset of the targets' field.
-pub fn targets_at(file: &[u8]) -> u32
-    ensures { λ r. ⌜ r ≡ targetsAt (now (file .entry)) ⌝ }
-{
-    CODE + (words::bytes::read_u16(file, CODE_LENGTH) as u32)
-}
-
-pub fn instruction_count(file: &[u8]) -> u32
-    ensures { λ r. ⌜ r ≡ instructionCount (now (file .entry)) ⌝ }
-{
-    (words::bytes::read_u16(file, CODE_LENGTH) as u32) / 8
-}
-
-pub fn target_count(file: &[u8]) -> u32
-    ensures { λ r. ⌜ r ≡ targetCount (now (file .entry)) ⌝ }
-{
-    let at = targets_at(file) as usize;
-    (words::bytes::read_u16(file, at + 1) as u32) / 68
-}
+pub const INDIRECT: u8 = 1;
 
 // Where the target of a number begins.
-fn target_start(file: &[u8], j: u32) -> usize
-    ensures { λ r. ⌜ (r ≡ targetStart (now (file .entry)) j) × (r < 0x80_0000_0000) ⌝ }
+fn target_start(j: u32) -> usize
+    ensures { λ r. ⌜ (r ≡ targetStart j) × (r < 0x80_0000_0000) ⌝ }
 {
-    (targets_at(file) as usize) + 3 + 68 * (j as usize)
+    TARGET * (j as usize)
 }
 
-pub fn index_of(file: &[u8], j: u32) -> u16
-    ensures { λ r. ⌜ r ≡ targetIndex (now (file .entry)) j ⌝ }
+pub fn index_of(targets: &[u8], j: u32) -> u16
+    ensures { λ r. ⌜ r ≡ targetIndex (now (targets .entry)) j ⌝ }
 {
-    let start = target_start(file, j);
-    words::bytes::read_u16(file, start)
+    words::bytes::read_u16(targets, target_start(j))
 }
 
-pub fn kind_of(file: &[u8], j: u32) -> u8
-    ensures { λ r. ⌜ r ≡ targetKind (now (file .entry)) j ⌝ }
+pub fn kind_of(targets: &[u8], j: u32) -> u8
+    ensures { λ r. ⌜ r ≡ targetKind (now (targets .entry)) j ⌝ }
 {
-    let start = target_start(file, j);
-    words::bytes::byte_at(file, start + 2)
-}
-
-pub fn is_indirect_kind(file: &[u8], j: u32) -> bool
-    ensures { λ r. ⌜ r ≡ targetIn (now (file .entry)) j .indirect ⌝ }
-{
-    kind_of(file, j) == INDIRECT
+    words::bytes::byte_at(targets, target_start(j) + 2)
 }
 
 // The byte behind the kind, which is zero in a good target.
-fn zero_byte(file: &[u8], j: u32) -> u8
-    ensures { λ r. ⌜ r ≡ getD (now (file .entry)) (targetStart (now (file .entry)) j + 3) 0 ⌝ }
+fn zero_byte(targets: &[u8], j: u32) -> u8
+    ensures { λ r. ⌜ r ≡ getD (now (targets .entry)) (targetStart j + 3) 0 ⌝ }
 {
-    let start = target_start(file, j);
-    words::bytes::byte_at(file, start + 3)
-}
-
-// The word at an offset.
-fn word_at(bytes: &[u8], at: usize) -> u32
-    requires { ⌜ at + 4 ≤ length (now bytes) ⌝ }
-    ensures { λ x. ⌜ x ≡ readBytes 4 (now (bytes .entry)) at ⌝ }
-{
-    words::bytes::little_endian(bytes[at], bytes[at + 1], bytes[at + 2], bytes[at + 3])
+    words::bytes::byte_at(targets, target_start(j) + 3)
 }
 
 // The lowest and the highest value that a claim has for a register; its target begins at `start`.
-fn low_at(bytes: &[u8], start: usize, r: usize) -> u32
-    requires { ⌜ (start + 68 ≤ length (now bytes)) × (r < 8) ⌝ }
-    ensures { λ x. ⌜ x ≡ readBytes 4 (now (bytes .entry)) (start + 4 + 8 * r) ⌝ }
+fn low_at(targets: &[u8], start: usize, r: usize) -> u32
+    requires { ⌜ (start < 0x80_0000_0000) × (r < 8) ⌝ }
+    ensures { λ x. ⌜ x ≡ readBytes 4 (now (targets .entry)) (start + 4 + 8 * r) ⌝ }
 {
-    word_at(bytes, start + 4 + 8 * r)
+    words::bytes::read_u32(targets, start + 4 + 8 * r)
 }
 
-fn high_at(bytes: &[u8], start: usize, r: usize) -> u32
-    requires { ⌜ (start + 68 ≤ length (now bytes)) × (r < 8) ⌝ }
-    ensures { λ x. ⌜ x ≡ readBytes 4 (now (bytes .entry)) (start + 8 + 8 * r) ⌝ }
+fn high_at(targets: &[u8], start: usize, r: usize) -> u32
+    requires { ⌜ (start < 0x80_0000_0000) × (r < 8) ⌝ }
+    ensures { λ x. ⌜ x ≡ readBytes 4 (now (targets .entry)) (start + 8 + 8 * r) ⌝ }
 {
-    word_at(bytes, start + 8 + 8 * r)
+    words::bytes::read_u32(targets, start + 8 + 8 * r)
 }
 
-// The claim of the target that begins at an offset.
-fn claim_at(bytes: &[u8], start: usize) -> Ranges
-    requires { ⌜ start + 68 ≤ length (now bytes) ⌝ }
-    ensures { λ r. ⌜ r ≡ claimAt (now (bytes .entry)) start ⌝ }
+// The claim of the target of a number.
+pub fn claim_in(targets: &[u8], j: u32) -> Ranges
+    ensures { λ r. ⌜ r ≡ claimIn (now (targets .entry)) j ⌝ }
 {
+    let start = target_start(j);
     Ranges {
         lows: [
-            low_at(bytes, start, 0),
-            low_at(bytes, start, 1),
-            low_at(bytes, start, 2),
-            low_at(bytes, start, 3),
-            low_at(bytes, start, 4),
-            low_at(bytes, start, 5),
-            low_at(bytes, start, 6),
-            low_at(bytes, start, 7),
+            low_at(targets, start, 0),
+            low_at(targets, start, 1),
+            low_at(targets, start, 2),
+            low_at(targets, start, 3),
+            low_at(targets, start, 4),
+            low_at(targets, start, 5),
+            low_at(targets, start, 6),
+            low_at(targets, start, 7),
         ],
         highs: [
-            high_at(bytes, start, 0),
-            high_at(bytes, start, 1),
-            high_at(bytes, start, 2),
-            high_at(bytes, start, 3),
-            high_at(bytes, start, 4),
-            high_at(bytes, start, 5),
-            high_at(bytes, start, 6),
-            high_at(bytes, start, 7),
+            high_at(targets, start, 0),
+            high_at(targets, start, 1),
+            high_at(targets, start, 2),
+            high_at(targets, start, 3),
+            high_at(targets, start, 4),
+            high_at(targets, start, 5),
+            high_at(targets, start, 6),
+            high_at(targets, start, 7),
         ],
-    }
-}
-
-// The bytes of a target that the file does not have whole, filled up with zeros.
-fn padded(file: &[u8], start: usize) -> [u8; 68]
-    requires { ⌜ start < 0x80_0000_0000 ⌝ }
-    ensures { λ r. ⌜ r ≡ tabulate start 68 (λ i. getD (now (file .entry)) i 0) ⌝ }
-{
-    let mut bytes: [u8; 68] = [0; 68];
-    let mut i: usize = 0;
-    while i < 68 {
-        bytes[i] = words::bytes::byte_at(file, start + i);
-        i += 1;
-    }
-    bytes
-}
-
-// The claim of the target of a number; bytes past the end are zero.
-pub fn claim_in(file: &[u8], j: u32) -> Ranges
-    ensures { λ r. ⌜ r ≡ claimIn (now (file .entry)) j ⌝ }
-{
-    let start = target_start(file, j);
-    if file.len() < start + TARGET {
-        let whole = padded(file, start);
-        return claim_at(&whole[..], 0);
-    }
-    claim_at(file, start)
-}
-
-// The target of a number, straight from the file; bytes past the end are zero.
-pub fn target_at(file: &[u8], j: u32) -> Target
-    ensures { λ r. ⌜ r ≡ targetIn (now (file .entry)) j ⌝ }
-{
-    Target {
-        index: index_of(file, j),
-        indirect: is_indirect_kind(file, j),
-        claim: claim_in(file, j),
     }
 }
 
@@ -202,31 +121,31 @@ fn is_indirect_claim(claim: Ranges) -> bool
 }
 
 // The first target is indirect, at index 0; every later one stands above the one before it.
-fn is_in_order(file: &[u8], j: u32) -> bool
-    ensures { λ x. ⌜ x ≡ isInOrder (now (file .entry)) j ⌝ }
+fn is_in_order(targets: &[u8], j: u32) -> bool
+    ensures { λ x. ⌜ x ≡ isInOrder (now (targets .entry)) j ⌝ }
 {
     if j == 0 {
-        if index_of(file, 0) != 0 {
+        if index_of(targets, 0) != 0 {
             return false;
         }
-        return kind_of(file, 0) == INDIRECT;
+        return kind_of(targets, 0) == INDIRECT;
     }
-    index_of(file, j - 1) < index_of(file, j)
+    index_of(targets, j - 1) < index_of(targets, j)
 }
 
-// The rules of a target.
-pub fn is_good_target(file: &[u8], j: u32) -> bool
-    ensures { λ x. ⌜ x ≡ isGoodTarget (now (file .entry)) j ⌝ }
+// The rules of a target, in a module of n instructions.
+pub fn is_good_target(n: u32, targets: &[u8], j: u32) -> bool
+    ensures { λ x. ⌜ x ≡ isGoodTarget n (now (targets .entry)) j ⌝ }
 {
-    let kind = kind_of(file, j);
-    let claim = claim_in(file, j);
-    if instruction_count(file) <= (index_of(file, j) as u32) {
+    let kind = kind_of(targets, j);
+    let claim = claim_in(targets, j);
+    if n <= (index_of(targets, j) as u32) {
         return false;
     }
     if 2 <= kind {
         return false;
     }
-    if zero_byte(file, j) != 0 {
+    if zero_byte(targets, j) != 0 {
         return false;
     }
     if !is_ordered(claim) {
@@ -237,5 +156,5 @@ pub fn is_good_target(file: &[u8], j: u32) -> bool
             return false;
         }
     }
-    is_in_order(file, j)
+    is_in_order(targets, j)
 }

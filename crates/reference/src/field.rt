@@ -1,22 +1,25 @@
 // The three fields and the layout: refusals 1 to 5.
-ghost use Prim.Native.Nat.{_<_};
+ghost use lib.ListN.{length};
+ghost use mathlib.Core.Bool.{true};
+ghost use mathlib.Core.Path.{_≡_};
+ghost use Rattle.reference.specs.Parts.{FieldSaid, LaidSaid, Listed, ShapeSaid};
 use super::read::byte;
 use super::read::wide;
 use super::read::word;
 
-pub struct Layout {
-    pub base: u32,
-    pub size: u32,
-    pub guard: u32,
+pub(crate) struct Layout {
+    pub(crate) base: u32,
+    pub(crate) size: u32,
+    pub(crate) guard: u32,
 }
 
 // The refusal's number and place, the number 0 where there is none; then instructions, doors and layout.
-pub struct Shape {
-    pub number: u32,
-    pub place: usize,
-    pub n: usize,
-    pub k: usize,
-    pub layout: Layout,
+pub(crate) struct Shape {
+    pub(crate) number: u32,
+    pub(crate) place: usize,
+    pub(crate) n: usize,
+    pub(crate) k: usize,
+    pub(crate) layout: Layout,
 }
 
 // A field's refusal, 0 where there is none, and the length of its value.
@@ -25,7 +28,9 @@ struct Piece {
     length: usize,
 }
 
-fn length_listed(tag: u32, length: usize) -> bool {
+fn length_listed(tag: u32, length: usize) -> bool
+    ensures { λ r. ⌜ (r ≡ true → Listed tag length) ⌝ }
+{
     if length == 0 {
         return false;
     }
@@ -37,7 +42,7 @@ fn length_listed(tag: u32, length: usize) -> bool {
 }
 
 fn field(file: &[u8], at: usize, tag: u32) -> Piece
-    ensures { λ r. ⌜ r .length < 65536 ⌝ }
+    ensures { λ r. ⌜ FieldSaid (length (now (file .entry))) at tag (r .number) (r .length) ⌝ }
 {
     if file.len() <= at {
         return Piece {
@@ -87,7 +92,9 @@ fn sound(base: u32, size: u32, guard: u32) -> bool {
     wide(base) + wide(size) + wide(guard) <= 4294967296
 }
 
-fn misshapen(number: u32, place: usize) -> Shape {
+fn misshapen(number: u32, place: usize) -> Shape
+    ensures { λ r. ⌜ r .number ≡ number ⌝ }
+{
     Shape {
         number,
         place,
@@ -101,7 +108,9 @@ fn misshapen(number: u32, place: usize) -> Shape {
     }
 }
 
-pub fn shape_of(file: &[u8]) -> Shape {
+pub(crate) fn shape_of(file: &[u8]) -> Shape
+    ensures { λ r. ⌜ ShapeSaid (length (now (file .entry))) (r .number) (r .n) (r .k) ⌝ }
+{
     let first = field(file, 0, 1);
     if first.number != 0 {
         return misshapen(first.number, 0);
@@ -122,7 +131,9 @@ pub fn shape_of(file: &[u8]) -> Shape {
     laid_out(file, second.length / 8, third.length / 68)
 }
 
-fn laid_out(file: &[u8], n: usize, k: usize) -> Shape {
+fn laid_out(file: &[u8], n: usize, k: usize) -> Shape
+    ensures { λ r. ⌜ LaidSaid n k (r .number) (r .n) (r .k) ⌝ }
+{
     let base = word(file, 3);
     let size = word(file, 7);
     let guard = word(file, 11);

@@ -6,17 +6,17 @@ use super::read::Ins;
 use super::read::low;
 use super::read::wide;
 
-pub struct Span {
-    pub lo: u32,
-    pub hi: u32,
+pub(crate) struct Span {
+    pub(crate) lo: u32,
+    pub(crate) hi: u32,
 }
 
 // Register b gets y, and then register a gets x; a register of 8 is none.
-pub struct Change {
-    pub a: u32,
-    pub x: Span,
-    pub b: u32,
-    pub y: Span,
+pub(crate) struct Change {
+    pub(crate) a: u32,
+    pub(crate) x: Span,
+    pub(crate) b: u32,
+    pub(crate) y: Span,
 }
 
 fn least(x: u32, y: u32) -> u32 {
@@ -35,7 +35,7 @@ fn anything() -> Span {
 }
 
 // The signed reading of imm, 2^32 above it.
-pub fn raised(imm: u32) -> usize
+pub(crate) fn raised(imm: u32) -> usize
     ensures { λ r. ⌜ r < 8589934592 ⌝ }
 {
     if imm < 2147483648 {
@@ -75,7 +75,7 @@ fn less(x: Span, y: Span) -> Span {
 }
 
 // An arithmetic shift: the sign is spread over 64 bits first.
-pub fn sar(v: u32, w: u32) -> u32 {
+pub(crate) fn sar(v: u32, w: u32) -> u32 {
     let s = w % 32;
     if v < 2147483648 {
         low(wide(v) >> s)
@@ -157,7 +157,7 @@ fn computed(i: Ins, x: Span, y: Span, l: Layout) -> Span {
     }
 }
 
-pub fn unchanged(x: Span, y: Span) -> Change {
+pub(crate) fn unchanged(x: Span, y: Span) -> Change {
     Change { a: 8, x, b: 8, y }
 }
 
@@ -191,7 +191,7 @@ fn cut_below(i: Ins, x: Span, y: Span) -> Change {
     both(i, Span { lo: x.lo, hi }, Span { lo, hi: y.hi })
 }
 
-pub fn taken(i: Ins, x: Span, y: Span) -> Change {
+pub(crate) fn taken(i: Ins, x: Span, y: Span) -> Change {
     if !cuts(i) {
         return unchanged(x, y);
     }
@@ -213,7 +213,7 @@ fn untaken(i: Ins, x: Span, y: Span) -> Change {
 }
 
 // The change along the edge to the next index.
-pub fn after(i: Ins, x: Span, y: Span, l: Layout) -> Change {
+pub(crate) fn after(i: Ins, x: Span, y: Span, l: Layout) -> Change {
     let b = if i.imm == 0 { i.b } else { 8 };
     let op = i.op;
     match op {

@@ -1,5 +1,9 @@
 // The rules of the scope document by tables: a module file is laid out in flat arrays, which are then
 // gone through by index. What lies past an array's end reads as 0, so no reader asks for a bound.
+ghost use lib.ListN.{length};
+ghost use Rattle.reference.specs.Runs.{RunSaid};
+ghost use Rattle.reference.specs.Verdicts.{RefusedAs, VerifySaid};
+
 mod field;
 mod know;
 mod load;
@@ -29,7 +33,9 @@ pub struct Ran {
     pub steps: u32,
 }
 
-fn refused(number: u32, place: usize) -> Judged {
+fn refused(number: u32, place: usize) -> Judged
+    ensures { λ r. ⌜ RefusedAs number place r ⌝ }
+{
     Judged {
         accepted: false,
         first: number,
@@ -37,8 +43,11 @@ fn refused(number: u32, place: usize) -> Judged {
     }
 }
 
-// Accepted with instructions and doors, or refused with a number from 1 to 13 and its place.
-pub fn verify(file: &[u8]) -> Judged {
+// Accepted with instructions and doors, or refused with a number from 1 to 13 and its place. The contract does not
+// settle which of the two it is, nor which number and place: that the answer is right is tested by comparison.
+pub fn verify(file: &[u8]) -> Judged
+    ensures { λ r. ⌜ VerifySaid (length (now (file .entry))) r ⌝ }
+{
     let shape = shape_of(file);
     if shape.number != 0 {
         return refused(shape.number, shape.place);
@@ -62,7 +71,8 @@ pub fn verify(file: &[u8]) -> Judged {
 }
 
 // A run of at most budget steps: refused with a number of 1 to 7, 14 or 15, or with its ending, 0 halted,
-// 1 trapped, 2 turned away, 3 strayed, 4 spent.
+// 1 trapped, 2 turned away, 3 strayed, 4 spent. The contract does not settle which of them it is, nor the place of
+// a refusal, nor what a run does to registers, place and memory: that these are right is tested by comparison.
 pub fn run(
     file: &[u8],
     registers: [u32; 8],
@@ -70,7 +80,9 @@ pub fn run(
     memory: &mut [u8],
     offset: usize,
     budget: u32,
-) -> Ran {
+) -> Ran
+    ensures { λ r. ⌜ RunSaid registers place budget (now (memory .entry)) (now (memory .exit)) r ⌝ }
+{
     let shape = shape_of(file);
     if shape.number != 0 {
         return unrun(registers, place, shape.number, shape.place);

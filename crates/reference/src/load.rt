@@ -1,6 +1,7 @@
 // The instructions and doors into flat arrays, and refusals 6 and 7. The code is eight planes of 4,096 entries;
 // the claims are sixteen entries for each door, lowest and highest of r0 to r7 in turn.
 ghost use Prim.Native.Nat.{_<_};
+ghost use Rattle.reference.specs.Parts.{LoadSaid};
 use super::read::DOOR;
 use super::read::Ins;
 use super::read::KIND;
@@ -14,9 +15,9 @@ use super::read::wide;
 use super::read::word;
 
 // A refusal's number and place, the number 0 where there is none.
-pub struct Found {
-    pub number: u32,
-    pub place: usize,
+pub(crate) struct Found {
+    pub(crate) number: u32,
+    pub(crate) place: usize,
 }
 
 // The largest value of each operand by opcode, 0 where it is unused.
@@ -45,15 +46,26 @@ const IMM_MOST: [u32; 16] = [
     0,
 ];
 
+// Whether an operand is above the largest that its opcode takes.
+fn above(most: &[u32; 16], op: usize, operand: u32) -> bool {
+    most[op % 16] < operand
+}
+
 fn readable(x: Ins) -> bool {
     let op = wide(x.op);
     if 15 < op {
         return false;
     }
-    if A_MOST[op] < x.a || B_MOST[op] < x.b {
+    if above(&A_MOST, op, x.a) {
         return false;
     }
-    if W_MOST[op] < x.w || IMM_MOST[op] < x.imm {
+    if above(&B_MOST, op, x.b) {
+        return false;
+    }
+    if above(&W_MOST, op, x.w) {
+        return false;
+    }
+    if above(&IMM_MOST, op, x.imm) {
         return false;
     }
     if op == 10 || op == 11 {
@@ -167,7 +179,9 @@ fn copy_claims(file: &[u8], n: usize, k: usize, claims: &mut [u32]) {
     }
 }
 
-pub fn load(file: &[u8], n: usize, k: usize, code: &mut [u32], claims: &mut [u32]) -> Found {
+pub(crate) fn load(file: &[u8], n: usize, k: usize, code: &mut [u32], claims: &mut [u32]) -> Found
+    ensures { λ r. ⌜ LoadSaid n k (r .number) (r .place) ⌝ }
+{
     decode(file, n, code);
     let bad = unreadable(code, n);
     if bad < n {

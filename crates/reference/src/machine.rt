@@ -1,4 +1,6 @@
 // The stepping machine over the flat arrays. An ending of 5 says that the run goes on.
+ghost use Rattle.reference.specs.Parts.{Ending};
+ghost use Rattle.reference.specs.Runs.{Ended, EndedAs, RunSaid, UnrunAs};
 use super::Ran;
 use super::field::Layout;
 use super::know::sar;
@@ -55,7 +57,9 @@ fn fetched(region: &[u8], at: usize, w: u32) -> u32 {
     }
 }
 
-fn onward(place: usize, n: usize) -> Out {
+fn onward(place: usize, n: usize) -> Out
+    ensures { λ r. ⌜ Ending (r .ending) ⌝ }
+{
     if place < n {
         if place + 1 < n {
             return Out {
@@ -68,7 +72,9 @@ fn onward(place: usize, n: usize) -> Out {
 }
 
 // To the index `to`, where a door of at least this kind must stand.
-fn leap(code: &[u32], place: usize, to: u32, kind: u32) -> Out {
+fn leap(code: &[u32], place: usize, to: u32, kind: u32) -> Out
+    ensures { λ r. ⌜ Ending (r .ending) ⌝ }
+{
     if plane(code, KIND, wide(to)) < kind {
         Out { ending: 3, place }
     } else {
@@ -108,7 +114,9 @@ fn holds(w: u32, x: u32, y: u32) -> bool {
 }
 
 // How an access ends: done, trapped or strayed.
-fn reach(address: u32, w: u32, l: Layout) -> u32 {
+fn reach(address: u32, w: u32, l: Layout) -> u32
+    ensures { λ r. ⌜ Ending r ⌝ }
+{
     let from = wide(address);
     let to = from + wide(w);
     let base = wide(l.base);
@@ -123,14 +131,9 @@ fn reach(address: u32, w: u32, l: Layout) -> u32 {
     3
 }
 
-fn access(
-    i: Ins,
-    l: Layout,
-    n: usize,
-    place: usize,
-    regs: &mut [u32; 8],
-    region: &mut [u8],
-) -> Out {
+fn access(i: Ins, l: Layout, n: usize, place: usize, regs: &mut [u32; 8], region: &mut [u8]) -> Out
+    ensures { λ r. ⌜ Ending (r .ending) ⌝ }
+{
     let address = std::num::wrapping_add_u32(register(regs, i.b), i.imm);
     let ending = reach(address, i.w, l);
     if ending != ON {
@@ -148,7 +151,9 @@ fn access(
     out
 }
 
-fn compute(i: Ins, l: Layout, n: usize, place: usize, regs: &mut [u32; 8]) -> Out {
+fn compute(i: Ins, l: Layout, n: usize, place: usize, regs: &mut [u32; 8]) -> Out
+    ensures { λ r. ⌜ Ending (r .ending) ⌝ }
+{
     let out = onward(place, n);
     if out.ending == ON {
         write(
@@ -161,7 +166,9 @@ fn compute(i: Ins, l: Layout, n: usize, place: usize, regs: &mut [u32; 8]) -> Ou
 }
 
 // Where opcodes 12 to 15 lead.
-fn steer(code: &[u32], i: Ins, n: usize, place: usize, x: u32, y: u32) -> Out {
+fn steer(code: &[u32], i: Ins, n: usize, place: usize, x: u32, y: u32) -> Out
+    ensures { λ r. ⌜ Ending (r .ending) ⌝ }
+{
     let op = i.op;
     match op {
         12 => leap(code, place, i.imm, 1),
@@ -190,7 +197,9 @@ fn step(
     place: usize,
     regs: &mut [u32; 8],
     region: &mut [u8],
-) -> Out {
+) -> Out
+    ensures { λ r. ⌜ Ending (r .ending) ⌝ }
+{
     let i = fetch(code, place);
     if i.op == 0 {
         return Out { ending: 0, place };
@@ -204,7 +213,9 @@ fn step(
     steer(code, i, n, place, register(regs, i.a), register(regs, i.b))
 }
 
-pub fn unrun(registers: [u32; 8], place: u16, number: u32, at: usize) -> Ran {
+pub(crate) fn unrun(registers: [u32; 8], place: u16, number: u32, at: usize) -> Ran
+    ensures { λ r. ⌜ UnrunAs registers place number r ⌝ }
+{
     Ran {
         registers,
         place,
@@ -215,7 +226,9 @@ pub fn unrun(registers: [u32; 8], place: u16, number: u32, at: usize) -> Ran {
     }
 }
 
-fn ended(registers: [u32; 8], place: usize, ending: u32, steps: u32) -> Ran {
+fn ended(registers: [u32; 8], place: usize, ending: u32, steps: u32) -> Ran
+    ensures { λ r. ⌜ EndedAs ending steps r ⌝ }
+{
     Ran {
         registers,
         place: (place % 65536) as u16,
@@ -234,7 +247,9 @@ fn go(
     from: u16,
     region: &mut [u8],
     budget: u32,
-) -> Ran {
+) -> Ran
+    ensures { λ r. ⌜ Ended budget r ⌝ }
+{
     let mut regs = registers;
     let mut place = from as usize;
     let mut steps = 0u32;
@@ -250,7 +265,7 @@ fn go(
 }
 
 // The record's place and the ground of the region, and then the run.
-pub fn start(
+pub(crate) fn start(
     code: &[u32],
     l: Layout,
     n: usize,
@@ -259,7 +274,9 @@ pub fn start(
     memory: &mut [u8],
     offset: usize,
     budget: u32,
-) -> Ran {
+) -> Ran
+    ensures { λ r. ⌜ RunSaid registers place budget (now (memory .entry)) (now (memory .exit)) r ⌝ }
+{
     let size = wide(l.size);
     if n <= place as usize {
         return unrun(registers, place, 14, 0);

@@ -1,5 +1,6 @@
 // The verifier's demands at each index, in the order 12, 9, 10, 8, 13, 11. What is known are the lowest and the
 // highest value of each register.
+ghost use Rattle.reference.specs.Parts.{Demand, DemandAt};
 use super::field::Layout;
 use super::know::Change;
 use super::know::Span;
@@ -144,7 +145,9 @@ fn judge(
     i: usize,
     lo: &[u32; 8],
     hi: &[u32; 8],
-) -> u32 {
+) -> u32
+    ensures { λ r. ⌜ Demand r ⌝ }
+{
     let x = fetch(code, i);
     if no_way_in(code, i) {
         return 12;
@@ -184,7 +187,9 @@ fn pass(code: &[u32], l: Layout, i: usize, lo: &mut [u32; 8], hi: &mut [u32; 8])
     learn(lo, hi, c.a, z);
 }
 
-pub fn judge_all(code: &[u32], claims: &[u32], l: Layout, n: usize) -> Found {
+pub(crate) fn judge_all(code: &[u32], claims: &[u32], l: Layout, n: usize) -> Found
+    ensures { λ r. ⌜ DemandAt n (r .number) (r .place) ⌝ }
+{
     let mut lo = [0u32; 8];
     let mut hi = [4294967295u32; 8];
     let mut i = 0;

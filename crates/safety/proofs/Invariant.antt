@@ -15,12 +15,14 @@ use Rattle.model.specs.Words.{top}
 use Rattle.model.specs.Quantifiers.{anyOf}
 use Rattle.model.specs.Program.{Program, targetAt, isTarget, isIndirect}
 use Rattle.model.specs.Instructions.{reg, afterNext}
+use Rattle.model.specs.Ranges.{regionRange}
 use Rattle.model.specs.Step.{shapeAt}
-use Rattle.model.specs.File.{byteAt, programIn}
-use Rattle.model.specs.Judgement.{traitsAt, startingRanges, claimOr, knownAt, judged}
+use Rattle.model.specs.File.{byteAt, codeStart, codeIn, targetsIn, programOf, programIn}
+use Rattle.model.specs.Judgement.{traitsAt, startingRanges, claimOr, knownAt, firstBroken}
 use Rattle.model.specs.Rules.{LayoutKept, LiesWithin, FileKept, IndexKept, KeepsEveryRule}
-use Rattle.model.specs.Safety.{Words, ClaimKept}
+use Rattle.model.specs.Safety.{EightWords, ClaimKept}
 use Rattle.model.proofs.Accepted.{accepted-iff}
+use Rattle.model.proofs.Stretches.{value-bytes}
 use Rattle.model.proofs.Targets.{TargetFacts, target-facts}
 use Rattle.model.proofs.Registers.{Within}
 use Rattle.model.proofs.Sound.{Sound, code-sound}
@@ -29,7 +31,7 @@ use Rattle.model.proofs.Accuracy.{NextAccurate, TakenAccurate}
 -- what holds before each step
 pub record Invariant (p : Program) (m : Machine) : Type 0 where
   pub inside : m .pc < length (p .code)
-  pub words : Words (m .registers)
+  pub words : EightWords (m .registers)
   pub within : Within (knownAt p (m .pc)) (m .registers)
   -- a jump through a register comes only after its check
   pub checked : (a : ℕ) → traitsAt p (m .pc) .goesBy ≡ some a → isIndirect (p .targets) (reg (m .registers) a) ≡ true
@@ -38,20 +40,20 @@ pub record Invariant (p : Program) (m : Machine) : Type 0 where
 pub record Accepted (file : List ℕ) : Type 0 where
   pub file-rules : FileKept file
   pub layout : LayoutKept (programIn file .layout)
-  pub sound : (i : ℕ) → Sound (shapeAt (programIn file) i)
-  pub target : (i : ℕ) (t : Target) → targetAt (programIn file .targets) i ≡ some t → TargetFacts file i t
+  pub sound : (i : ℕ) → Sound (programIn file .layout) (shapeAt (programIn file) i)
+  pub target : (i : ℕ) (t : Target) → targetAt (programIn file .targets) i ≡ some t → TargetFacts (length (programIn file .code)) i t
   pub rules : (i : ℕ) → i < length (programIn file .code) → IndexKept (programIn file) i
 
 -- an accepted file of bytes is such a file
-pub accepted-file : (file : List ℕ) → ((i : ℕ) → byteAt file i < 256) → judged file ≡ none → Accepted file
-unfolding programIn
+pub accepted-file : (file : List ℕ) → ((i : ℕ) → byteAt file i < 256) → firstBroken file ≡ none → Accepted file
+unfolding programOf
 accepted-file file bytes passes =
     let kept : KeepsEveryRule file = accepted-iff file .0 passes in
     record {
       file-rules = kept .file-rules;
-      layout = kept .file-rules .layout;
-      sound = code-sound file bytes (kept .file-rules .layout);
-      target = target-facts file (kept .file-rules);
+      layout = kept .file-rules .holds .layout;
+      sound = code-sound (codeIn file) (value-bytes file codeStart 2 bytes) (kept .file-rules .holds .layout) (targetsIn file);
+      target = target-facts (kept .file-rules .holds);
       rules = kept .code-rules;
     }
 
@@ -61,7 +63,7 @@ accepted-file file bytes passes =
 known-at-target : (p : Program) (i : ℕ) (t : Target) → targetAt (p .targets) i ≡ some t → knownAt p i ≡ t .claim
 unfolding knownAt
 known-at-target p zero t lookup = ap (claimOr startingRanges) lookup
-known-at-target p (suc i) t lookup = ap (claimOr (afterNext (p .layout) (shapeAt p i) (knownAt p i))) lookup
+known-at-target p (suc i) t lookup = ap (claimOr (afterNext (regionRange (p .layout)) (shapeAt p i) (knownAt p i))) lookup
 
 -- so a machine with the invariant keeps the claim of the target that it is at
 pub claim-kept : {p : Program} {m : Machine} → Invariant p m → ClaimKept p m
@@ -85,7 +87,7 @@ module _ {file : List ℕ} (accepted : Accepted file) where
   within-claim : {k : Ranges} {rs : List ℕ} (to : ℕ) (t : Target) → targetAt (p .targets) to ≡ some t → LiesWithin k (t .claim)
       → Within k rs → Within (t .claim) rs
   within-claim to t lookup lies within =
-      let facts : TargetFacts file to t = accepted .target to t lookup in
+      let facts : TargetFacts (length (p .code)) to t = accepted .target to t lookup in
       record {
         lows8 = facts .lows8;
         highs8 = facts .highs8;
@@ -94,7 +96,7 @@ module _ {file : List ℕ} (accepted : Accepted file) where
       }
 
   -- arriving at a target with registers within its claim
-  pub at-target : (to : ℕ) (t : Target) (rs : List ℕ) → targetAt (p .targets) to ≡ some t → Words rs → Within (t .claim) rs
+  pub at-target : (to : ℕ) (t : Target) (rs : List ℕ) → targetAt (p .targets) to ≡ some t → EightWords rs → Within (t .claim) rs
       → Invariant p (record { registers = rs; pc = to })
   at-target to t rs lookup words within = record {
     inside = inside;
@@ -107,11 +109,11 @@ module _ {file : List ℕ} (accepted : Accepted file) where
       inside = accepted .target to t lookup .inside
 
   -- arriving at an indirect target with any registers
-  pub at-indirect : (to : ℕ) (rs : List ℕ) → isIndirect (p .targets) to ≡ true → Words rs
+  pub at-indirect : (to : ℕ) (rs : List ℕ) → isIndirect (p .targets) to ≡ true → EightWords rs
       → Invariant p (record { registers = rs; pc = to })
   at-indirect to rs passed words =
       let (t, lookup, indirect) = passed-by (λ t. t .indirect) (targetAt (p .targets) to) passed in
-      let facts : TargetFacts file to t = accepted .target to t lookup in
+      let facts : TargetFacts (length (p .code)) to t = accepted .target to t lookup in
       at-target to t rs lookup words (record {
         lows8 = facts .lows8;
         highs8 = facts .highs8;
@@ -131,7 +133,7 @@ module _ {file : List ℕ} (accepted : Accepted file) where
         let (t, lookup, _) = passed-by (λ _. true) (targetAt (p .targets) to) is-target in (
           is-target,
           at-target to t (m .registers) lookup (invariant .words)
-              (within-claim to t lookup (rules-at-pc .claims .taken to (taken .named) t lookup) (taken .within)),
+              (within-claim to t lookup (rules-at-pc .taken to (taken .named) t lookup) (taken .within)),
         )
 
     -- going on to the next index: it is inside the code
@@ -158,7 +160,7 @@ module _ {file : List ℕ} (accepted : Accepted file) where
             omega (arith, invariant .inside)
 
         claim-or-after : (found : Option Target) → targetAt (p .targets) (suc i) ≡ found
-            → Within (claimOr (afterNext (p .layout) (shapeAt p i) (knownAt p i)) found) rs
+            → Within (claimOr (afterNext (regionRange (p .layout)) (shapeAt p i) (knownAt p i)) found) rs
         claim-or-after none lookup = next .within
         claim-or-after (some t) lookup =
-            within-claim (suc i) t lookup (rules-at-pc .claims .next (next .falls) t (rw add-one lookup)) (next .within)
+            within-claim (suc i) t lookup (rules-at-pc .next (next .falls) t (rw (add-one i) lookup)) (next .within)

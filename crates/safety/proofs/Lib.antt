@@ -4,4 +4,5 @@ pub mod SafeRun
 pub mod SafeCalls
 pub mod Safety
 pub mod Loop
+pub mod Clauses
 pub mod Entries

@@ -16,7 +16,7 @@ use Rattle.model.specs.Obligations.{fault, firstFault}
 use Rattle.model.specs.Answers.{ended, stepsIn}
 use Rattle.model.specs.Program.{Program}
 use Rattle.model.specs.Step.{Step}
-use Rattle.model.specs.File.{instructionCount, layoutIn, readable, programIn}
+use Rattle.model.specs.File.{codeIn, instructionCount, layoutIn, readable, programOf, programIn}
 use Rattle.model.specs.Rules.{FileKept, Runnable}
 use Rattle.model.specs.Run.{Run, run, stretch, splice, unchanged, finished, runnable, runOn}
 use Rattle.model.specs.Safety.{Bytes, StepSafe, InRegionOf, MemoryOf}
@@ -48,13 +48,13 @@ pub record CallKept (file : List ℕ) (m : Machine) (before : List ℕ) (c : Cal
 
 -- the size that run reads is the module's
 size-in : (file : List ℕ) → layoutIn file .size ≡ programIn file .layout .size
-unfolding programIn
+unfolding programOf
 size-in file = refl
 
 -- ---- a call that has no region
 
 -- the refusal of a run that only lacks its region
-no-room : (file : List ℕ) (m : Machine) (memory : List ℕ) (offset : ℕ) → FileKept file → m .pc < instructionCount file
+no-room : (file : List ℕ) (m : Machine) (memory : List ℕ) (offset : ℕ) → FileKept file → m .pc < instructionCount (codeIn file)
     → length memory < offset + layoutIn file .size → firstFault (runnable file m memory offset) ≡ some (fault 15 0)
 unfolding runnable firstFault
 no-room file m memory offset kept inside short =
@@ -72,7 +72,7 @@ module _ {file : List ℕ} (accepted : Accepted file) {m : Machine} (invariant :
   abbrev written : List ℕ
   written = hostWrites p before c
 
-  pc-inside : m .pc < instructionCount file
+  pc-inside : m .pc < instructionCount (codeIn file)
   pc-inside = rw code-length at (invariant .inside)
 
   module _ (short : length before < c .offset + size) where
@@ -149,7 +149,7 @@ module _ {file : List ℕ} (accepted : Accepted file) {m : Machine} (invariant :
     }
 
     answered-run : runOn file m written (c .offset) (c .budget) ≡ finished (c .offset) size written made
-    unfolding programIn
+    unfolding programOf
     answered-run = runOn-runs file m written (c .offset) (c .budget) asked
 
     -- what the host wrote to the region is written over

@@ -15,7 +15,7 @@ use Rattle.model.specs.declared.Machine.{Machine}
 use Rattle.model.specs.declared.Ranges.{Ranges}
 use Rattle.model.specs.Program.{Program, isTarget, isIndirect}
 use Rattle.model.specs.Instructions.{Access, Shape, stops, assigns, loads, stores, jumps, branches, checks, jumpsVia, traits}
-use Rattle.model.specs.Step.{Effect, goesOn, goesTo, goesVia, ends, reaches, Landing, nowhere, named, viaRegister, Step, moves, settle, shapeAt, step}
+use Rattle.model.specs.Step.{Effect, goesOn, goesTo, goesVia, ends, reaches, Landing, nowhere, named, viaRegister, Step, moves, settle, shapeAt, stepOf, step}
 use Rattle.model.specs.File.{programIn}
 use Rattle.model.specs.Judgement.{knownAt}
 use Rattle.model.specs.Rules.{LayoutKept}
@@ -45,7 +45,7 @@ module _ {l : Layout} (kept : LayoutKept l) {k : Ranges} {rs : List ℕ} (within
       reached-in-zones (contained-in-zones kept within (sound .pointer) (sound .displacement) (allowed ac has))
 
   -- an instruction whose access is allowed reaches only for what is in the region or guard zones
-  reaches-zones : (s : Shape) → Sound s → AccessAllowed l s k → AllInZones l (reaches (traits s .access) rs)
+  reaches-zones : (s : Shape) → Sound l s → AccessAllowed l s k → AllInZones l (reaches (traits s .access) rs)
   reaches-zones stops sound allowed at among = absurd (List·Memᴰ·not-nil among)
   reaches-zones (assigns a value ranged) sound allowed at among = absurd (List·Memᴰ·not-nil among)
   reaches-zones (loads a ac) sound allowed at among = access-reaches (loads a ac) a ac sound allowed refl at among
@@ -72,7 +72,7 @@ module _ {file : List ℕ} (accepted : Accepted file) {m : Machine} {bs : List �
   abbrev known : Ranges
   known = knownAt p (m .pc)
 
-  sound : Sound instruction
+  sound : Sound (p .layout) instruction
   sound = accepted .sound (m .pc)
 
   allowed : AccessAllowed (p .layout) instruction known
@@ -121,7 +121,7 @@ module _ {file : List ℕ} (accepted : Accepted file) {m : Machine} {bs : List �
 
   -- one step keeps the invariant and is safe
   pub step-kept : StepKept p (step p m bs)
-  unfolding step
+  unfolding step stepOf
   step-kept =
       settle-kept _ (reaches-zones (accepted .layout) (invariant .within) instruction sound allowed) _
       (effect-accurate (accepted .layout) (p .targets) (invariant .within) (invariant .words) bytes instruction sound)

@@ -1,6 +1,6 @@
 pub mod Zones
-pub mod Landing
-pub mod Turning
-pub mod Behind
+pub mod ByKind
+pub mod ByRule
+pub mod Order
 pub mod Passing
 pub mod Verdicts

@@ -9,19 +9,18 @@ use lib.IntN.{ℤ, pos, _+ℤ_, subℕ}
 use lib.Signed.{leZ}
 use mir.Syntax.{w32}
 use mir.Val.{SFits, ofZ, toZ}
+use mir.ValLaws.{toZ-ofZ}
 use Rattle.model.specs.declared.Layout.{Layout}
 use Rattle.model.specs.declared.Range.{Range}
-use Rattle.model.specs.declared.Ranges.{Ranges}
 use Rattle.model.specs.declared.Width.{Width}
 use Rattle.model.specs.declared.Width.the-variants.{One, Two, Four}
 use Rattle.model.specs.Words.{modulus}
-use Rattle.model.specs.Ranges.{low, high, range, rangeOf, regionRange}
+use Rattle.model.specs.Ranges.{range, regionRange}
 use Rattle.model.specs.Instructions.{bytesOf}
 use Rattle.model.specs.Judgement.{isContained}
 use Rattle.model.specs.Rules.{LayoutKept}
 use Rattle.model.proofs.Tests.{by-cond}
 use Rattle.model.proofs.Values.{some-size}
-use Rattle.ranges.proofs.Raised.{kept-displacement}
 
 -- DB to DL, with the size less one added to the base
 pub region-ends : {l : Layout} → LayoutKept l → range (l .base) (l .base + (l .size - 1)) ≡ regionRange l
@@ -75,23 +74,22 @@ last-small {w = w} ends = rw (ends .is-last) (by-width w)
     by-width Four = omega arith
 
 module _ {l : Layout} (kept : LayoutKept l) {w : Width} {imm : ℤ} (fit : SFits w32 imm)
-    {x : Range} {lowest highest last : ℕ} (ends : Ends w imm x lowest highest last) (k : Ranges) (b : ℕ) (is-range : x ≡ rangeOf k b) where
-  two-tests : isContained l k (record { pointer = b; width = w; displacement = imm })
+    {x : Range} {lowest highest last : ℕ} (ends : Ends w imm x lowest highest last) where
+  two-tests : isContained l x w imm
       ≡ (leb (modulus + (l .base - l .guard)) lowest && leb (highest + last) (modulus + (l .base + l .size - 1 + l .guard)))
   unfolding isContained
   two-tests =
-      let lowest-is : pos (low k b) +ℤ imm ≡ subℕ lowest modulus =
-      ap (λ (y : Range). pos (y .low) +ℤ imm) (sym is-range) ∙ sym (kept-displacement _ _ _ fit (ends .is-lowest)) in
-      let highest-is : pos (high k b) +ℤ imm ≡ subℕ highest modulus =
-      ap (λ (y : Range). pos (y .high) +ℤ imm) (sym is-range) ∙ sym (kept-displacement _ _ _ fit (ends .is-highest)) in
+      let read-back : toZ w32 (ofZ w32 imm) ≡ imm = toZ-ofZ w32 imm fit in
+      let lowest-is : pos (x .low) +ℤ imm ≡ subℕ lowest modulus = sym (ends .is-lowest ∙ ap (λ (z : ℤ). pos (x .low) +ℤ z) read-back) in
+      let highest-is : pos (x .high) +ℤ imm ≡ subℕ highest modulus = sym (ends .is-highest ∙ ap (λ (z : ℤ). pos (x .high) +ℤ z) read-back) in
       rw (lowest-is, highest-is, ← ends .is-last)
       (ap₂ _&&_ (at-least (l .base - l .guard) lowest) (at-most highest last (l .base + l .size - 1 + l .guard)))
 
-  pub too-low : lowest < modulus + l .base - l .guard → false ≡ isContained l k (record { pointer = b; width = w; displacement = imm })
+  pub too-low : lowest < modulus + l .base - l .guard → false ≡ isContained l x w imm
   too-low below = sym (two-tests ∙ rw (lt-leb (modulus + (l .base - l .guard)) lowest (omega (arith, kept .below))))
 
   pub low-enough : modulus + l .base - l .guard ≤ lowest
-      → leb (highest + last) (modulus + l .base + l .size - 1 + l .guard) ≡ isContained l k (record { pointer = b; width = w; displacement = imm })
+      → leb (highest + last) (modulus + l .base + l .size - 1 + l .guard) ≡ isContained l x w imm
   low-enough above =
       let same-limit : modulus + l .base + l .size - 1 + l .guard ≡ modulus + (l .base + l .size - 1 + l .guard) = omega (arith, some-size kept) in
       sym (two-tests ∙ rw (le-leb (modulus + (l .base - l .guard)) lowest (omega (arith, kept .below)), same-limit))

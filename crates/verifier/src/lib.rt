@@ -1,4 +1,3 @@
 // The verifier: one pass over the instructions, from what is known at each index to what is known at the next, and rules 8 to 13.
 mod rules;
-mod turn;
 pub mod verify;

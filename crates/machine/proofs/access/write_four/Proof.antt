@@ -1,13 +1,13 @@
--- `machine::access::write_four` meets its contract: by the definition's four steps. Assumes nothing.
+-- `machine::access::write_four` meets its contract: by the law of writes. Assumes nothing.
 use borrow.Author.Needs.{needs}
 use native.Mathlib.Omega.{arith}
 use lib.ListN.{length-set}
-use Rattle.machine.proofs.Reaching.{writes-four}
+use Rattle.machine.proofs.Reaching.{writes}
 use Rattle.machine.proofs.access.write_four.Statement.{statement}
 use Rattle.machine.proofs.access.write_four.Tie as tie
 
 returns : tie.Need-returns
-returns c = writes-four _ _ _
+returns c = writes 3 _ _ _
 
 pub write-four-spec : {M : Type 1} → statement M
 write-four-spec =

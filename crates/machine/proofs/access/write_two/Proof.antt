@@ -1,13 +1,13 @@
--- `machine::access::write_two` meets its contract: by the definition's two steps. Assumes nothing.
+-- `machine::access::write_two` meets its contract: by the law of writes. Assumes nothing.
 use borrow.Author.Needs.{needs}
 use native.Mathlib.Omega.{arith}
 use lib.ListN.{length-set}
-use Rattle.machine.proofs.Reaching.{writes-two}
+use Rattle.machine.proofs.Reaching.{writes}
 use Rattle.machine.proofs.access.write_two.Statement.{statement}
 use Rattle.machine.proofs.access.write_two.Tie as tie
 
 returns : tie.Need-returns
-returns c = writes-two _ _ _
+returns c = writes 1 _ _ _
 
 pub write-two-spec : {M : Type 1} → statement M
 write-two-spec =

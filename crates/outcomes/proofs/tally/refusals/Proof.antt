@@ -5,10 +5,10 @@ use Rattle.outcomes.proofs.tally.refusals.Statement.{statement}
 use Rattle.outcomes.proofs.tally.refusals.Tie as tie
 
 abbrev Inv-loop : tie.InvT-loop
-Inv-loop tally words slots from end number₀ number = Unit {0}
+Inv-loop tally words slots number₀ number = Unit {0}
 
 abbrev μ-loop : tie.MeasureT-loop
-μ-loop tally words slots from end number₀ number = end - number
+μ-loop tally words slots number₀ number = 64 - number
 
 pub refusals-spec : {M : Type 1} → statement M
 refusals-spec =

@@ -4,15 +4,15 @@ use Rattle.ranges.proofs.Bounding.{sar-below, sar-above, sar-across}
 use Rattle.ranges.proofs.bounds.sar.Statement.{statement}
 use Rattle.ranges.proofs.bounds.sar.Tie as tie
 
-returns : tie.Need-returns
-returns c = c .sar-ends .ensures ∙ sar-below _ _ (c .before .if1 .taken)
+on-low-side : tie.Need-returns
+on-low-side c = c .sar-ends .ensures ∙ sar-below _ _ (c .before .if1 .taken)
 
-returns-2 : tie.Need-returns-2
-returns-2 c =
+on-high-side : tie.Need-returns-2
+on-high-side c =
     c .sar-ends2 .ensures ∙ sar-above _ _ (c .before .before .before .if1 .left) (c .before .if2 .taken)
 
-returns-3 : tie.Need-returns-3
-returns-3 c = sar-across _ _ (c .before .before .if1 .left) (c .if2 .left)
+on-both-sides : tie.Need-returns-3
+on-both-sides c = sar-across _ _ (c .before .before .if1 .left) (c .if2 .left)
 
 pub sar-spec : {M : Type 1} → statement M
-sar-spec = tie.close (tie.spec (λ c κs. tt) returns (λ c κs. tt) returns-2 returns-3)
+sar-spec = tie.close (tie.spec (λ c κs. tt) on-low-side (λ c κs. tt) on-high-side on-both-sides)

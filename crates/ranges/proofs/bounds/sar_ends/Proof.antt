@@ -4,8 +4,6 @@ use Rattle.model.specs.Ranges.{range}
 use Rattle.ranges.proofs.bounds.sar_ends.Statement.{statement}
 use Rattle.ranges.proofs.bounds.sar_ends.Tie as tie
 
-returns : tie.Need-returns
-returns c = ap₂ range (c .before .arithmetic-shift .ensures) (c .arithmetic-shift2 .ensures)
-
 pub sar-ends-spec : {M : Type 1} → statement M
-sar-ends-spec = tie.close (tie.spec (λ c κs. tt) (λ c κs. tt) returns)
+sar-ends-spec =
+    tie.close (tie.spec (λ c κs. tt) (λ c κs. tt) (λ c. ap₂ range (c .before .arithmetic-shift .ensures) (c .arithmetic-shift2 .ensures)))

@@ -4,8 +4,6 @@ use Rattle.model.specs.Ranges.{range}
 use Rattle.ranges.proofs.bounds.shr.Statement.{statement}
 use Rattle.ranges.proofs.bounds.shr.Tie as tie
 
-returns : tie.Need-returns
-returns c = ap₂ range (c .before .logical-shift .ensures) (c .logical-shift2 .ensures)
-
 pub shr-spec : {M : Type 1} → statement M
-shr-spec = tie.close (tie.spec (λ c κs. tt) (λ c κs. tt) returns)
+shr-spec =
+    tie.close (tie.spec (λ c κs. tt) (λ c κs. tt) (λ c. ap₂ range (c .before .logical-shift .ensures) (c .logical-shift2 .ensures)))

@@ -4,8 +4,6 @@ use Rattle.model.specs.Ranges.{range}
 use Rattle.ranges.proofs.cuts.common.Statement.{statement}
 use Rattle.ranges.proofs.cuts.common.Tie as tie
 
-returns : tie.Need-returns
-returns c = ap₂ range (c .before .larger .ensures) (c .smaller .ensures)
-
 pub common-spec : {M : Type 1} → statement M
-common-spec = tie.close (tie.spec (λ c κs. tt) (λ c κs. tt) returns)
+common-spec =
+    tie.close (tie.spec (λ c κs. tt) (λ c κs. tt) (λ c. ap₂ range (c .before .larger .ensures) (c .smaller .ensures)))

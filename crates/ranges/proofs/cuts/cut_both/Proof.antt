@@ -4,19 +4,19 @@ use Rattle.ranges.proofs.Cutting.{left-empty, right-empty, none-empty}
 use Rattle.ranges.proofs.cuts.cut_both.Statement.{statement}
 use Rattle.ranges.proofs.cuts.cut_both.Tie as tie
 
-returns : tie.Need-returns
-returns c =
+on-left-empty : tie.Need-returns
+on-left-empty c =
     let right = c .before .before in
     left-empty _ _ _ _ _ _ (right .before .common .ensures) (right .common2 .ensures) (sym (c .before .is-empty .ensures) ∙ c .if1 .taken)
 
-returns-2 : tie.Need-returns-2
-returns-2 c =
+on-right-empty : tie.Need-returns-2
+on-right-empty c =
     let right = c .before .before .before .before in
     right-empty _ _ _ _ _ _ (right .before .common .ensures) (right .common2 .ensures)
     (sym (c .before .is-empty2 .ensures) ∙ c .if2 .taken)
 
-returns-3 : tie.Need-returns-3
-returns-3 c =
+on-none-empty : tie.Need-returns-3
+on-none-empty c =
     let one-tested = c .before .before in
     let right = one-tested .before .before in
     none-empty _ _ _ _ _ _ (right .before .common .ensures) (right .common2 .ensures)
@@ -26,4 +26,4 @@ returns-3 c =
 pub cut-both-spec : {M : Type 1} → statement M
 cut-both-spec =
     tie.close
-    (tie.spec (λ c κs. tt) (λ c κs. tt) (λ c κs. tt) returns (λ c κs. tt) returns-2 returns-3)
+    (tie.spec (λ c κs. tt) (λ c κs. tt) (λ c κs. tt) on-left-empty (λ c κs. tt) on-right-empty on-none-empty)

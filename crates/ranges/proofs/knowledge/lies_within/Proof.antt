@@ -20,26 +20,26 @@ loop-holds : tie.Need-loop-holds Inv-loop μ-loop
 unfolding allBelow
 loop-holds c = refl
 
-returns : tie.Need-returns Inv-loop μ-loop
-returns c =
+on-low-outside : tie.Need-returns Inv-loop μ-loop
+on-low-outside c =
     let args = c .before .before .before .before .before .before .before .args in
-    low-outside (args .k) (args .claim) _ (omega arith) (c .if1 .taken)
+    low-outside (args .known) (args .claim) _ (omega arith) (c .if1 .taken)
 
-returns-2 : tie.Need-returns-2 Inv-loop μ-loop
-returns-2 c =
+on-high-outside : tie.Need-returns-2 Inv-loop μ-loop
+on-high-outside c =
     let args = c .before .before .before .before .before .before .before .before .args in
-    high-outside (args .k) (args .claim) _ (omega arith) (c .before .if1 .left) (c .if2 .taken)
+    high-outside (args .known) (args .claim) _ (omega arith) (c .before .if1 .left) (c .if2 .taken)
 
 loop-again : tie.Need-loop-again Inv-loop μ-loop
 loop-again c =
     let loop = c .before .before .before in
     let args = loop .before .before .before .before .before .args in
-    one-more-inside (args .k) (args .claim) _ (c .before .if1 .left) (c .if2 .left) (loop .loop .inv)
+    one-more-inside (args .known) (args .claim) _ (c .before .if1 .left) (c .if2 .left) (loop .loop .inv)
 
-returns-3 : tie.Need-returns-3 Inv-loop μ-loop
-returns-3 c =
+on-all-inside : tie.Need-returns-3 Inv-loop μ-loop
+on-all-inside c =
     let args = c .before .before .before .before .before .before .args in
-    all-inside (args .k) (args .claim) _ (c .loop-test .left) (c .before .loop .inv)
+    all-inside (args .known) (args .claim) _ (c .loop-test .left) (c .before .loop .inv)
 
 pub lies-within-spec : {M : Type 1} → statement M
 lies-within-spec =
@@ -52,13 +52,13 @@ lies-within-spec =
     (λ c. omega arith)
     (λ c. omega arith)
     (λ c. omega arith)
-    returns
+    on-low-outside
     (λ c. omega arith)
     (λ c. omega arith)
     (λ c. omega arith)
     (λ c. omega arith)
-    returns-2
+    on-high-outside
     (λ c. omega arith)
     (λ c. omega arith)
     loop-again
-    returns-3)
+    on-all-inside)

@@ -6,11 +6,11 @@ use Rattle.ranges.proofs.Registers.{no-register-put}
 use Rattle.ranges.proofs.knowledge.put.Statement.{statement}
 use Rattle.ranges.proofs.knowledge.put.Tie as tie
 
-returns-2 : tie.Need-returns-2
-returns-2 c = no-register-put (c .before .args .k) _ (search needs) (search needs) (c .if1 .left) _
+on-no-register : tie.Need-returns-2
+on-no-register c = no-register-put (c .before .args .known) _ (search needs) (search needs) (c .if1 .left) _
 
 pub put-spec : {M : Type 1} → statement M
 put-spec =
     tie.close
     (tie.spec
-    (λ c. omega arith) (λ c. omega arith) (λ c. omega arith) (λ c. omega arith) (λ c. refl) returns-2)
+    (λ c. omega arith) (λ c. omega arith) (λ c. omega arith) (λ c. omega arith) (λ c. refl) on-no-register)

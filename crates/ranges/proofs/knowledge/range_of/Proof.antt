@@ -6,11 +6,11 @@ use Rattle.ranges.proofs.Registers.{no-register-read}
 use Rattle.ranges.proofs.knowledge.range_of.Statement.{statement}
 use Rattle.ranges.proofs.knowledge.range_of.Tie as tie
 
-returns-2 : tie.Need-returns-2
-returns-2 c = no-register-read (c .before .args .t1) _ (search needs) (search needs) (c .if1 .left)
+on-no-register : tie.Need-returns-2
+on-no-register c = no-register-read (c .before .args .t1) _ (search needs) (search needs) (c .if1 .left)
 
 pub range-of-spec : {M : Type 1} → statement M
 range-of-spec =
     tie.close
     (tie.spec
-    (λ c. omega arith) (λ c. omega arith) (λ c. omega arith) (λ c. omega arith) (λ c. refl) returns-2)
+    (λ c. omega arith) (λ c. omega arith) (λ c. omega arith) (λ c. omega arith) (λ c. refl) on-no-register)

@@ -1,24 +1,38 @@
--- `reader::field::field_value` meets its contract: the part that a judgement names lies in the file, and is the value; a refused
--- field has none. Assumes nothing.
+-- `reader::field::field_value` meets its contract: the part that is located lies in the file, and is the value; a refused field has
+-- none. Assumes nothing.
+use mathlib.Core.Option.{Option·some-ne-none}
+use mathlib.Core.Path.{refl, _∙_}
+use native.Mathlib.Omega.{arith}
 use borrow.Author.Needs.{needs}
-use Rattle.reader.proofs.Judging.{value-within, value-is, refused-empty}
+use Rattle.reader.proofs.Judging.{value-place, value-within, value-is, refused-names, refused-empty}
 use Rattle.reader.proofs.field.field_value.Statement.{statement}
 use Rattle.reader.proofs.field.field_value.Tie as tie
 
 sub-result : tie.Need-sub-result
 sub-result c =
-    value-within _ _ _ _ (c .before .before .before .judge-field .ensures) _ _ (c .before .start .given .1) .0
+    value-within _ _ _ _ (c .before .before .before .locate-field .ensures) _ _ (c .before .start .given .1) .0
 
 part-result-end : tie.Need-part-result-end
 part-result-end c =
-    value-within _ _ _ _ (c .before .before .before .judge-field .ensures) _ _ (c .before .start .given .1) .1
+    value-within _ _ _ _ (c .before .before .before .locate-field .ensures) _ _ (c .before .start .given .1) .1
 
 returns : tie.Need-returns
 returns c =
-    value-is _ _ _ _ (c .before .before .before .before .judge-field .ensures) _ _ (c .before .before .start .given .1)
+    let located = c .before .before .before .before .locate-field in
+    let told = c .before .before .start .given .1 in
+    record {
+      bytes = value-is _ _ _ _ (located .ensures) _ _ told;
+      place = λ met. (refl, omega (arith, value-place _ _ _ _ (located .ensures) _ _ told .0));
+    }
 
 returns-2 : tie.Need-returns-2
-returns-2 c = refused-empty _ _ _ _ (c .before .before .before .judge-field .ensures) _ (c .before .enum-told .given .1)
+returns-2 c =
+    let located = c .before .before .before .locate-field in
+    let told = c .before .enum-told .given .1 in
+    record {
+      bytes = refused-empty _ _ _ _ (located .ensures) _ told;
+      place = λ met. absurd (Option·some-ne-none _ (refused-names _ _ _ _ (located .ensures) _ told ∙ met));
+    }
 
 pub field-value-spec : {M : Type 1} → statement M
 field-value-spec =

@@ -22,4 +22,5 @@ returns-4 c = let rest = c .match .rest in none-listed _ _ (rest .0 .0 .1) (rest
 
 pub is-listed-spec : {M : Type 1} → statement M
 is-listed-spec =
-    tie.close (tie.spec (λ c κs. omega arith) (λ c κs. omega arith) returns returns-2 returns-3 returns-4)
+    tie.close
+    (tie.spec (λ c. omega arith) (λ c κs. omega arith) (λ c. omega arith) (λ c κs. omega arith) returns returns-2 returns-3 returns-4)

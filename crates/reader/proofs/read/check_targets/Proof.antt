@@ -1,21 +1,21 @@
 -- `reader::read::check_targets` meets its contract. The loop's invariant: the first fault from here on is the first of all.
 -- Assumes nothing.
 use Prim.Native.Nat.{_-_}
-use mathlib.Core.Path.{_≡_, _∙_}
+use mathlib.Core.Path.{ap, _∙_}
 use native.Mathlib.Omega.{arith}
 use Rattle.model.specs.Answers.{ruleNumber}
 use Rattle.model.specs.File.{isGoodTarget}
 use Rattle.model.proofs.Tests.{test-fails, test-passes}
-use Rattle.reader.specs.Checks.{faultIn}
-use Rattle.reader.proofs.Passes.{faultFrom, faultBelow, indexes-begin, index-fails, index-passes, indexes-pass}
+use Rattle.reader.specs.Findings.{faultIn}
+use Rattle.reader.proofs.Checking.{faultBelow, Judges, indexes-begin, index-fails, index-passes, indexes-pass}
 use Rattle.reader.proofs.read.check_targets.Statement.{statement}
 use Rattle.reader.proofs.read.check_targets.Tie as tie
 
 abbrev Inv-loop : tie.InvT-loop
-Inv-loop file k j₀ j = faultFrom 7 (isGoodTarget file) k j ≡ faultBelow 7 (isGoodTarget file) k
+Inv-loop n targets k j₀ j = Judges 7 (isGoodTarget n targets) k j
 
 abbrev μ-loop : tie.MeasureT-loop
-μ-loop file k j₀ j = k - j
+μ-loop n targets k j₀ j = k - j
 
 loop-holds : tie.Need-loop-holds Inv-loop μ-loop
 loop-holds c = indexes-begin 7 _ _
@@ -24,19 +24,19 @@ returns : tie.Need-returns Inv-loop μ-loop
 unfolding ruleNumber
 returns c =
     let judged = c .before .before in
-    let test = judged .before in
+    let loop = judged .before .before in
     c .unmet .ensures
-    ∙ index-fails 7 _ _ _ (test .before .loop .inv) (omega arith) (test-fails (judged .is-good-target .ensures) (c .before .if1 .taken))
+    ∙ index-fails 7 _ _ _ (loop .loop .inv) (omega arith) (test-fails (judged .is-good-target .ensures) (c .before .if1 .taken))
+    ∙ ap (faultBelow 7 _) (loop .before .before .pre)
 
 loop-again : tie.Need-loop-again Inv-loop μ-loop
 loop-again c =
     let judged = c .before in
-    let test = judged .before in
-    index-passes 7 _ _ _ (test .before .loop .inv) (omega arith) (test-passes (judged .is-good-target .ensures) (c .if1 .left))
+    index-passes 7 _ _ _ (judged .before .before .loop .inv) (omega arith) (test-passes (judged .is-good-target .ensures) (c .if1 .left))
 
 returns-2 : tie.Need-returns-2 Inv-loop μ-loop
 unfolding faultIn
-returns-2 c = indexes-pass 7 _ _ _ (c .before .loop .inv) (omega arith)
+returns-2 c = indexes-pass 7 _ _ _ (c .before .loop .inv) (omega arith) ∙ ap (faultBelow 7 _) (c .before .before .before .pre)
 
 pub check-targets-spec : {M : Type 1} → statement M
 check-targets-spec =

@@ -8,37 +8,32 @@ use Rattle.reader.proofs.target.is_good_target.Statement.{statement}
 use Rattle.reader.proofs.target.is_good_target.Tie as tie
 
 parts : (c : tie.After-index-of) →
-    let claim = c .before .before in
+    let claim = c .before in
     let kind = claim .before in
     let entry = kind .before .before .args in
-    Parts (entry .file .now) (entry .j) (kind .kind-of .result) (c .index-of .result) (c .before .instruction-count .result) (claim .claim-in .result)
+    Parts (entry .targets .now) (entry .j) (kind .kind-of .result) (c .index-of .result) (claim .claim-in .result)
 parts c =
-    let claim = c .before .before in
-    record {
-      is-kind = claim .before .kind-of .ensures;
-      is-index = c .index-of .ensures;
-      is-count = c .before .instruction-count .ensures;
-      is-claim = claim .claim-in .ensures;
-    }
+    let claim = c .before in
+    record { is-kind = claim .before .kind-of .ensures; is-index = c .index-of .ensures; is-claim = claim .claim-in .ensures }
 
 returns : tie.Need-returns
-returns c = outside (parts (c .before)) (omega arith)
+returns c = outside _ (parts (c .before)) (omega arith)
 
 returns-2 : tie.Need-returns-2
-returns-2 c = unknown-kind (parts (c .before .before)) (c .before .if1 .left) (omega arith)
+returns-2 c = unknown-kind _ (parts (c .before .before)) (c .before .if1 .left) (omega arith)
 
 returns-3 : tie.Need-returns-3
 returns-3 c =
     let known = c .before .before in
     let inside = known .before in
-    used-byte (parts (inside .before)) (inside .if1 .left) (known .if2 .left) (c .before .zero-byte .ensures) (c .if3 .taken)
+    used-byte _ (parts (inside .before)) (inside .if1 .left) (known .if2 .left) (c .before .zero-byte .ensures) (c .if3 .taken)
 
 returns-4 : tie.Need-returns-4
 returns-4 c =
     let unused = c .before .before in
     let known = unused .before .before in
     let inside = known .before in
-    unordered (parts (inside .before)) (inside .if1 .left) (known .if2 .left) (unused .before .zero-byte .ensures) (unused .if3 .left)
+    unordered _ (parts (inside .before)) (inside .if1 .left) (known .if2 .left) (unused .before .zero-byte .ensures) (unused .if3 .left)
     (c .before .is-ordered .ensures) (not-true _ (c .if4 .taken))
 
 returns-5 : tie.Need-returns-5
@@ -48,7 +43,7 @@ returns-5 c =
     let unused = ordered .before .before in
     let known = unused .before .before in
     let inside = known .before in
-    narrow-claim (parts (inside .before)) (inside .if1 .left) (known .if2 .left) (unused .before .zero-byte .ensures) (unused .if3 .left)
+    narrow-claim _ (parts (inside .before)) (inside .if1 .left) (known .if2 .left) (unused .before .zero-byte .ensures) (unused .if3 .left)
     (ordered .before .is-ordered .ensures) (not-false _ (ordered .if4 .left)) (indirect .if5 .taken)
     (sym (c .before .is-indirect-claim .ensures) ∙ not-true _ (c .if6 .taken))
 
@@ -60,7 +55,7 @@ returns-6 c =
     let known = unused .before .before in
     let inside = known .before in
     c .is-in-order .ensures
-    ∙ only-order (parts (inside .before)) (inside .if1 .left) (known .if2 .left) (unused .before .zero-byte .ensures) (unused .if3 .left)
+    ∙ only-order _ (parts (inside .before)) (inside .if1 .left) (known .if2 .left) (unused .before .zero-byte .ensures) (unused .if3 .left)
     (ordered .before .is-ordered .ensures) (not-false _ (ordered .if4 .left))
     (⊎-elim
     (λ tested indirect. sym (tested .1 .ensures) ∙ not-false _ (tested .2 .left))
@@ -71,5 +66,5 @@ pub is-good-target-spec : {M : Type 1} → statement M
 is-good-target-spec =
     tie.close
     (tie.spec
-    (λ c κs. tt) (λ c κs. tt) (λ c κs. tt) (λ c κs. tt) (λ c. omega arith) returns returns-2
+    (λ c κs. tt) (λ c κs. tt) (λ c κs. tt) (λ c. omega arith) returns returns-2
     (λ c κs. tt) returns-3 (λ c κs. tt) returns-4 (λ c κs. tt) returns-5 (λ c κs. tt) returns-6)

@@ -8,7 +8,7 @@ use Rattle.reader.proofs.target.zero_byte.Tie as tie
 
 returns : tie.Need-returns
 returns c =
-    c .byte-at .ensures ∙ ap (λ (at : ℕ). getD (c .before .before .before .args .file .now) (at + 3) 0) (c .before .target-start .ensures .0)
+    c .byte-at .ensures ∙ ap (λ (at : ℕ). getD (c .before .before .before .args .targets .now) (at + 3) 0) (c .before .target-start .ensures .0)
 
 pub zero-byte-spec : {M : Type 1} → statement M
 zero-byte-spec = tie.close (tie.spec (λ c κs. tt) (λ c. omega arith) (λ c κs. tt) returns)

@@ -1,6 +1,6 @@
 -- `reference::load::unsound` is safe and ends: the door's number is at most k, and the measure is what is left. Assumes nothing.
 use Prim.Native.Nat.{_≤_, _-_}
-use borrow.Author.Needs.{needs}
+use native.Mathlib.Omega.{arith}
 use Rattle.reference.proofs.load.unsound.Statement.{statement}
 use Rattle.reference.proofs.load.unsound.Tie as tie
 
@@ -16,10 +16,10 @@ unsound-spec =
     (tie.spec
     Inv-loop
     μ-loop
-    (λ c. search needs)
-    (λ c κs. search needs)
-    (λ c. search needs)
-    (λ c. search needs)
-    (λ c. search needs)
-    (λ c. search needs)
-    (λ c. search needs))
+    (λ c. omega arith)
+    (λ c κs. tt)
+    (λ c. tt)
+    (λ c. omega arith)
+    (λ c. omega arith)
+    (λ c. omega arith)
+    (λ c. tt))

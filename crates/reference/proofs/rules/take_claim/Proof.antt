@@ -1,6 +1,6 @@
 -- `reference::rules::take_claim` is safe and ends: the register is at most 8, and the measure is what is left. Assumes nothing.
 use Prim.Native.Nat.{_≤_, _-_}
-use borrow.Author.Needs.{needs}
+use native.Mathlib.Omega.{arith}
 use Rattle.reference.proofs.rules.take_claim.Statement.{statement}
 use Rattle.reference.proofs.rules.take_claim.Tie as tie
 
@@ -16,10 +16,10 @@ take-claim-spec =
     (tie.spec
     Inv-loop
     μ-loop
-    (λ c. search needs)
-    (λ c κs. search needs)
-    (λ c κs. search needs)
-    (λ c. search needs)
-    (λ c. search needs)
-    (λ c. search needs)
-    (λ c. search needs))
+    (λ c. omega arith)
+    (λ c κs. tt)
+    (λ c κs. tt)
+    (λ c. omega arith)
+    (λ c. omega arith)
+    (λ c. omega arith)
+    (λ c. tt))

@@ -17,16 +17,16 @@ add-highest : tie.Need-add-highest
 add-highest c = record { fits = omega (arith, c .before .displaced-end2 .ensures .1, last-small (ends-in c)) }
 
 returns : tie.Need-returns
-returns c k b is-range =
+returns c =
     let ends = c .before .before .before .before in
     let start = ends .before .before .before in
-    too-low (start .pre) (start .fits .imm) (ends-in ends) k b is-range (c .if1 .taken)
+    too-low (start .pre) (start .fits .imm) (ends-in ends) (c .if1 .taken)
 
 returns-2 : tie.Need-returns-2
-returns-2 c k b is-range =
+returns-2 c =
     let ends = c .before .before .before .before in
     let start = ends .before .before .before in
-    low-enough (start .pre) (start .fits .imm) (ends-in ends) k b is-range (c .if1 .left)
+    low-enough (start .pre) (start .fits .imm) (ends-in ends) (c .if1 .left)
 
 pub is-contained-spec : {M : Type 1} → statement M
 is-contained-spec =

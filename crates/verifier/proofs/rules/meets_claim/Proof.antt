@@ -5,7 +5,7 @@ use Rattle.verifier.proofs.rules.meets_claim.Statement.{statement}
 use Rattle.verifier.proofs.rules.meets_claim.Tie as tie
 
 returns : tie.Need-returns
-returns c = c .lies-within .ensures ∙ ap (liesWithin (c .before .before .before .args .k)) (c .before .claim-in .ensures)
+returns c = c .lies-within .ensures ∙ ap (liesWithin (c .before .before .before .args .ranges)) (c .before .claim-in .ensures)
 
 pub meets-claim-spec : {M : Type 1} → statement M
 meets-claim-spec = tie.close (tie.spec (λ c κs. tt) (λ c κs. tt) returns)

@@ -1,0 +1,49 @@
+-- Demand 3 for whatever a host calls: each entry's contract gives the promise of run, and each verdict that no rule is broken.
+-- Assumes nothing.
+use Prim.Native.Nat.{ℕ}
+use mathlib.Core.Path.{_≡_, sym, ap, _∙_}
+use mathlib.Core.List.{List}
+use mathlib.Core.Option.{none}
+use Rattle.model.specs.declared.Machine.{Machine}
+use Rattle.model.specs.Judgement.{firstBroken}
+use Rattle.model.specs.Run.{Seen, RunPost, runOn}
+use Rattle.model.specs.Walk.{Call, Called}
+use Rattle.model.specs.Walk as Walk
+use Rattle.safety.proofs.Safety.{safety}
+use Rattle.safety.proofs.Entries.{accepted-means}
+use Rattle.madsjirn.specs.declared.answers.RunAnswer.{RunAnswer}
+use Rattle.madsjirn.specs.declared.answers.VerdictAnswer.{VerdictAnswer}
+use Rattle.madsjirn.specs.Numbers.{reportIn, Leaves}
+use Rattle.madsjirn.specs.Entries.{LetIn, verified, verified-by-number, seenIn, EntryPost, by-value, over-lent, exported, Hosted, done, call, HostedSafety}
+use Rattle.madsjirn.proofs.Decoding.{report-carried, passed-none}
+
+-- what is read back from the numbers of an exported call is the model's
+numbers-post : {file : List ℕ} {m : Machine} {memory : List ℕ} {offset budget : ℕ} (a : RunAnswer) (m′ : Machine) (after : List ℕ)
+    → Leaves (runOn file m memory offset budget) a m′ after → RunPost file m memory offset budget (seenIn a m′ after)
+numbers-post {file} {m} {memory} {offset} {budget} a m′ after left =
+    let told : reportIn a ≡ runOn file m memory offset budget .report =
+    ap reportIn (left .numbers) ∙ report-carried file m memory offset budget in
+    record { is = λ i. record { report = told i; machine = left .machine-is i; memory = left .memory-is i } }
+
+entry-post : {file : List ℕ} {m : Machine} {memory : List ℕ} {offset budget : ℕ} {s : Seen}
+    → EntryPost file m memory offset budget s → RunPost file m memory offset budget s
+entry-post (by-value o after post) = post
+entry-post (over-lent a m′ after post) = post
+entry-post (exported a m′ after left) = numbers-post a m′ after left
+
+called : {file : List ℕ} {m : Machine} {memory : List ℕ} {calls : List Call} {seen : List Seen}
+    → Hosted file m memory calls seen → Called file m memory calls seen
+called done = Walk.done
+called (call answered rest) = Walk.call (entry-post answered) (called rest)
+
+let-in : {file : List ℕ} → LetIn file → firstBroken file ≡ none
+let-in {file} (verified v n k meant answered) = accepted-means file v n k meant answered
+let-in {file} (verified-by-number v numbers zero-number) = passed-none file (sym (ap (λ (w : VerdictAnswer). w .refusal) numbers) ∙ zero-number)
+
+pub hosted-safety : HostedSafety
+hosted-safety = record {
+  safe = λ file m memory calls seen let-in-by bytes at-indirect words written hosted.
+      safety .safe file m memory calls seen
+      (record { bytes = bytes; accepted = let-in let-in-by; at-indirect = at-indirect; registers = words; written = written })
+      (called hosted);
+}

@@ -1,0 +1,143 @@
+-- What is promised, in the order of the demands. Each promise is a type here; proofs/ (and the crate safety for demand 3, whose
+-- statement is in Safety) only show that each holds, so nothing there need be read. Assumes nothing.
+use Prim.Native.Nat.{ℕ, _+_, _/_, _%_, _≤_, _<_}
+use mathlib.Core.Path.{_≡_}
+use mathlib.Core.Bool.{true}
+use mathlib.Core.Logic.{_↔_, _⊎_}
+use mathlib.Core.List.{List, [], _∷_, _++_, map, List·Memᴰ}
+use mathlib.Core.Option.{none, some}
+use lib.ListN.{length, take, replicate}
+use Rattle.model.specs.declared.Ending.{Ending}
+use Rattle.model.specs.declared.Ending.the-variants.{OutOfBudget}
+use Rattle.model.specs.declared.Layout.{Layout}
+use Rattle.model.specs.declared.Machine.{Machine}
+use Rattle.model.specs.Obligations.{Fault, fault, firstFault, FirstUnmet}
+use Rattle.model.specs.Answers.{accepted, refused, ended, rejected}
+use Rattle.model.specs.Program.{Program}
+use Rattle.model.specs.Step.{inRegion, inZones, step}
+use Rattle.model.specs.File.{codeIn, instructionCount, programIn}
+use Rattle.model.specs.Judgement.{obligations, firstBroken, judgement}
+use Rattle.model.specs.Rules.{FileKept, KeepsEveryRule, Runnable}
+use Rattle.model.specs.Run.{Seen, run, runnable, runOn, seenAfter}
+use Rattle.model.specs.Walk.{Call, walk, seenIn, Called}
+use Rattle.model.specs.Safety.{Fed, InZones, InRegionOf}
+use Rattle.model.specs.Outcomes as Outcomes
+use Rattle.model.specs.Outcomes.{Row, numbers}
+use Rattle.model.specs.Loop.{loopWith, loop, start, zeros, calling}
+use Rattle.model.specs.Walks as Walks
+use Rattle.model.specs.Line.{digit, decimal, lineOf}
+
+-- ---- demand 1: "gets the result or one of the fifteen listed refusals"
+
+-- the verifier's refusals are numbered 1 to 13, a run's 1 to 7, 14 and 15
+pub record RefusalsListed : Type 0 where
+  pub verdict : (file : List ℕ) (f : Fault) → judgement file ≡ refused f → (1 ≤ f .number) × (f .number ≤ 13)
+  pub run : (file : List ℕ) (m : Machine) (memory : List ℕ) (offset budget : ℕ) (f : Fault) (n : ℕ)
+      → runOn file m memory offset budget .report ≡ rejected f n
+      → ((1 ≤ f .number) × (f .number ≤ 7)) ⊎ ((14 ≤ f .number) × (f .number ≤ 15))
+
+-- "record and memory then hold just what they held before"; "A refused run reports 0 steps."
+pub record RefusalKeeps : Type 0 where
+  pub run : (file : List ℕ) (m : Machine) (memory : List ℕ) (offset budget : ℕ) (f : Fault) (n : ℕ)
+      → runOn file m memory offset budget .report ≡ rejected f n
+      → (n ≡ 0) × (runOn file m memory offset budget .machine ≡ m) × (runOn file m memory offset budget .memory ≡ memory)
+
+-- ---- demand 2
+
+-- "A module is accepted if and only if it keeps every rule in document 01"
+pub record AcceptedIff : Type 0 where
+  pub iff : (file : List ℕ) → (firstBroken file ≡ none) ↔ KeepsEveryRule file
+
+-- and a run is made if and only if it has what it asks for
+pub record RunIff : Type 0 where
+  pub iff : (file : List ℕ) (m : Machine) (memory : List ℕ) (offset : ℕ)
+      → (firstFault (runnable file m memory offset) ≡ none) ↔ Runnable file m memory offset
+
+-- "Otherwise the refusal names the first rule broken and where."
+pub record RefusalFirst : Type 0 where
+  pub verdict : (file : List ℕ) (f : Fault) → firstBroken file ≡ some f → FirstUnmet (obligations file) f
+  pub run : (file : List ℕ) (m : Machine) (memory : List ℕ) (offset : ℕ) (f : Fault)
+      → firstFault (runnable file m memory offset) ≡ some f → FirstUnmet (runnable file m memory offset) f
+
+-- "The longest module has 50,197 bytes."; and any longer file is judged by its first bytes
+pub record LongFiles : Type 0 where
+  pub longest : (file : List ℕ) → firstBroken file ≡ none → length file ≤ 50197
+  pub front : (file : List ℕ) (m : ℕ) → 50198 ≤ m → m ≤ length file → judgement (take m file) ≡ judgement file
+
+-- "A step that traps, is turned away or strays changes nothing; halt leaves the place as it is."; and in a file that keeps rules
+-- 1 to 7 every step stays inside the code and keeps the number of registers and of the region's bytes
+pub record StepsSteady : Type 0 where
+  pub ending : (p : Program) (m : Machine) (bs : List ℕ) (e : Ending) → step p m bs .ending ≡ some e
+      → (step p m bs .machine ≡ m) × (step p m bs .region ≡ bs)
+  pub inside : (file : List ℕ) → FileKept file → (m : Machine) (bs : List ℕ) → m .pc < instructionCount (codeIn file)
+      → (step (programIn file) m bs .machine .pc < instructionCount (codeIn file))
+      × (length (step (programIn file) m bs .machine .registers) ≡ length (m .registers))
+      × (length (step (programIn file) m bs .region) ≡ length bs)
+
+-- "A run of p steps that is spent, then one of q at the same offset with nothing changed between, ends as one of p + q does, in
+-- ending, record and memory, and the two counts add up to its count"
+pub record CallsJoin : Type 0 where
+  pub join : (file : List ℕ) (m : Machine) (memory : List ℕ) (offset first more made : ℕ)
+      → runOn file m memory offset first .report ≡ ended OutOfBudget made
+      → runOn file m memory offset (first + more)
+      ≡ seenAfter made
+      (runOn file (runOn file m memory offset first .machine) (runOn file m memory offset first .memory) offset more)
+
+-- "P1 to P12 are proved as one table by one claim about the definitions.": in every row they give what document 01 says
+pub record KnownOutcomes : Type 0 where
+  pub agree : (r : Row) → List·Memᴰ r Outcomes.table → r .given ≡ r .expected
+  pub complete : numbers Outcomes.table
+      ≡ 1 ∷ 2 ∷ 3 ∷ 4 ∷ 5 ∷ 6 ∷ 6 ∷ 7 ∷ 8 ∷ 8 ∷ 9 ∷ 10 ∷ 11 ∷ 12 ∷ []
+
+-- and so does the loop: "The gate program prints `accepted 4 2`. .. With guard 7 accepted, with guard 6 `refused 10 1`. With r1 claimed
+-- DB to DL, `refused 11 3`."
+pub record LoopJudged : Type 0 where
+  pub verdicts : (judgement loop
+      ∷ judgement (loopWith 7 0x2000_1003) ∷ judgement (loopWith 6 0x2000_1003) ∷ judgement (loopWith 256 0x2000_0FFF) ∷ [])
+      ≡ (accepted 4 2 ∷ accepted 4 2 ∷ refused (fault 10 1) ∷ refused (fault 11 3) ∷ [])
+
+-- "Numbers are decimal": a number below ten is its digit, and any other has the digits of its tenth and then its last
+pub record DecimalKnown : Type 0 where
+  pub small : (n : ℕ) → n < 10 → decimal n ≡ digit n ∷ []
+  pub more : (n : ℕ) → 10 ≤ n → decimal n ≡ decimal (n / 10) ++ (digit (n % 10) ∷ [])
+
+-- and the lines `accepted 4 2`, `refused 10 1`, `refused 1 0` and `accepted 4096 256`, byte by byte
+pub record LineKnown : Type 0 where
+  pub lines : (lineOf (accepted 4 2)
+      ∷ lineOf (refused (fault 10 1)) ∷ lineOf (refused (fault 1 0)) ∷ lineOf (accepted 4096 256) ∷ [])
+      ≡ ((97 ∷ 99 ∷ 99 ∷ 101 ∷ 112 ∷ 116 ∷ 101 ∷ 100 ∷ 32 ∷ 52 ∷ 32 ∷ 50 ∷ 10 ∷ [])
+      ∷ (114 ∷ 101 ∷ 102 ∷ 117 ∷ 115 ∷ 101 ∷ 100 ∷ 32 ∷ 49 ∷ 48 ∷ 32 ∷ 49 ∷ 10 ∷ [])
+      ∷ (114 ∷ 101 ∷ 102 ∷ 117 ∷ 115 ∷ 101 ∷ 100 ∷ 32 ∷ 49 ∷ 32 ∷ 48 ∷ 10 ∷ [])
+      ∷ (97 ∷ 99 ∷ 99 ∷ 101 ∷ 112 ∷ 116 ∷ 101 ∷ 100 ∷ 32 ∷ 52 ∷ 48 ∷ 57 ∷ 54 ∷ 32 ∷ 50 ∷ 53 ∷ 54 ∷ 10 ∷ [])
+      ∷ [])
+
+-- ---- demand 3 is `Safety`; these hold its terms to the step and the run
+
+-- the zones of the demand are those that a step's access is judged by
+pub record ZonesAgree : Type 0 where
+  pub zones : (l : Layout) (at : ℕ) → InZones l at ↔ (inZones l at 1 ≡ true)
+  -- and a call's region is where the region's addresses lie in memory: "The address base is the first byte of the lent stretch"
+  pub region : (p : Program) (n : ℕ) (c : Call) (at : ℕ)
+      → InRegionOf p n c at
+      ↔ ((c .offset + p .layout .size ≤ n)
+      × ((address : ℕ) × (inRegion (p .layout) address 1 ≡ true) × (at + p .layout .base ≡ c .offset + address)))
+
+-- whatever is fed, there is something that the calls answered and left: so demand 3 is never empty
+pub record CallsAnswer : Type 0 where
+  pub answers : (file : List ℕ) (m : Machine) (memory : List ℕ) (calls : List Call)
+      → (seen : List Seen) × Called file m memory calls seen
+
+-- small walks, whose logs are compared entry by entry with what document 01 says
+pub record KnownWalks : Type 0 where
+  pub agree : (r : Row) → List·Memᴰ r Walks.table → r .given ≡ r .expected
+  pub complete : numbers Walks.table
+      ≡ 1 ∷ 2 ∷ 3 ∷ 4 ∷ 5 ∷ 6 ∷ 7 ∷ 8 ∷ 9 ∷ 10 ∷ 11 ∷ 12 ∷ 13 ∷ 14 ∷ 15 ∷ 16 ∷ []
+
+-- two calls of the loop, of budgets 3 and 2: it can be fed to the walk, and each call is answered so
+pub record LoopWalked : Type 0 where
+  pub fed : Fed loop start (calling 3 ∷ calling 2 ∷ [])
+  pub reports : map (λ (s : Seen). s .report) (seenIn (walk (programIn loop) start zeros (calling 3 ∷ calling 2 ∷ [])))
+      ≡ ended OutOfBudget 3 ∷ ended OutOfBudget 2 ∷ []
+  -- guard, load, addi; then jump, load: r1 is one word further, and the next instruction is the addi
+  pub machines : map (λ (s : Seen). s .machine) (seenIn (walk (programIn loop) start zeros (calling 3 ∷ calling 2 ∷ [])))
+      ≡ record { registers = 0 ∷ 0x2000_0004 ∷ replicate 6 0; pc = 3 } ∷ record { registers = 0 ∷ 0x2000_0004 ∷ replicate 6 0; pc = 2 } ∷ []

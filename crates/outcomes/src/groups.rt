@@ -1,0 +1,84 @@
+// The known cases, group by group: how many there are, and how many each implementation answers as document 01 says.
+use super::limit;
+use super::order;
+use super::range;
+use super::score::report;
+use super::step;
+
+const RULE_B: u32 = 0;
+
+const RULE_N: u32 = 1;
+
+const ACCESSES: u32 = 2;
+
+const RULE_W: u32 = 3;
+
+const MOVES: u32 = 4;
+
+const SHIFTS: u32 = 5;
+
+const ORDERS: u32 = 6;
+
+const JUMPS: u32 = 7;
+
+const SPOILED: u32 = 8;
+
+const LAYOUTS: u32 = 9;
+
+const COUNTS: u32 = 10;
+
+const ROOMS: u32 = 11;
+
+const DONE: u32 = 12;
+
+const ENDS: u32 = 13;
+
+const OTHERS: u32 = 14;
+
+fn case(score: &mut [u32; 4], group: u32, i: usize) {
+    match group {
+        RULE_B => range::rule_b(score, i),
+        RULE_N => range::rule_n(score, i),
+        ACCESSES => range::accesses(score, i),
+        RULE_W => range::rule_w(score, i),
+        MOVES => range::moves(score, i),
+        SHIFTS => range::shifts(score, i),
+        ORDERS => order::orders(score, i),
+        JUMPS => order::jumps(score, i),
+        SPOILED => order::spoiled(score, i),
+        LAYOUTS => order::layouts(score, i),
+        COUNTS => limit::counts(score, i),
+        ROOMS => step::rooms(score, i),
+        DONE => step::done(score, i),
+        ENDS => step::ends(score, i),
+        _ => step::others(score, i),
+    }
+}
+
+fn group(words: &[u8], which: u32, rows: usize) {
+    let mut score = [0u32; 4];
+    let mut i = 0;
+    while i < rows {
+        case(&mut score, which, i);
+        i += 1;
+    }
+    report(words, &score);
+}
+
+pub(crate) fn groups() {
+    group(b"rule B", RULE_B, 29);
+    group(b"rule N and loads", RULE_N, 20);
+    group(b"accesses at the guard's edges", ACCESSES, 16);
+    group(b"rule W", RULE_W, 21);
+    group(b"set, copy, andi and guard", MOVES, 15);
+    group(b"shifts", SHIFTS, 12);
+    group(b"the order of 8 to 13", ORDERS, 18);
+    group(b"checks and places of jumps", JUMPS, 15);
+    group(b"the order of 4 to 7", SPOILED, 9);
+    group(b"layouts", LAYOUTS, 20);
+    group(b"limits of 4096 and 256", COUNTS, 9);
+    group(b"room for the region", ROOMS, 6);
+    group(b"accesses that are done", DONE, 12);
+    group(b"accesses that end the run", ENDS, 14);
+    group(b"jumps, tests and values", OTHERS, 26);
+}
