@@ -12,6 +12,10 @@
  * Nothing is kept between calls: no pointer, no state, no heap. Calls on different machines and memories may be
  * made at the same time. Each call gets the module's bytes and judges them.
  *
+ * The library is built for x86-64 Linux by `rt staticlib madsjirn`, which writes target/staticlib/libmadsjirn.a:
+ * compile with -I include and link that file. A call writes less than 900 bytes below its caller's stack pointer
+ * (measured, not proved: docs/PERFORMANCE.md), does not recurse, and makes no system call.
+ *
  * Answers are numbers: member refusal is 0, or the number of the first rule broken, in document 01's order, and
  * place says where: an offset into the file, or an index, as listed below. Where refusal is 0, place means
  * nothing. No other numbers than those named below occur.
@@ -109,8 +113,11 @@ madsjirn_module madsjirn_read(const uint8_t *file, size_t file_length);
  * Judges a module file: rules 1 to 13.
  *
  * Yields refusal 0 with the counts exactly if the module keeps every rule; else the first rule broken, and the
- * rest 0. Changes nothing. A run of an accepted module that begins at an indirect target, with any registers
- * and any bytes in the region, never ends as MADSJIRN_VIOLATED.
+ * rest 0. Changes nothing.
+ *
+ * Neither a run of an accepted module that begins at an indirect target with any registers, nor any later run of
+ * it on the machine that this one left, ends as MADSJIRN_VIOLATED, whatever the host writes into the region before
+ * and between them. Index 0 is an indirect target of every module.
  */
 madsjirn_verdict madsjirn_verify(const uint8_t *file, size_t file_length);
 

@@ -4,6 +4,8 @@
  */
 #include "madsjirn.h"
 
+#include "file_builder.h"
+
 #include <stdbool.h>
 #include <stdio.h>
 #include <string.h>
@@ -13,8 +15,7 @@ enum {
     SIZE = 4096,
     GUARD = 256,
     OFFSET = 1000,      /* where the region begins in the host's memory */
-    MEMORY_LENGTH = 10000,
-    FILE_LENGTH = (3 + 12) + (3 + 4 * 8) + (3 + 2 * 68)
+    MEMORY_LENGTH = 10000
 };
 
 static bool failed = false;
@@ -22,51 +23,6 @@ static bool failed = false;
 static void expect(bool holds, const char *what) {
     printf("  %s %s\n", holds ? "ok   " : "WRONG", what);
     failed = failed || !holds;
-}
-
-/* A file under construction: bytes written so far. */
-typedef struct {
-    uint8_t bytes[FILE_LENGTH];
-    size_t length;
-} file_builder;
-
-static void put_u8(file_builder *file, uint8_t value) {
-    file->bytes[file->length] = value;
-    file->length += 1;
-}
-
-static void put_u16(file_builder *file, uint16_t value) {
-    put_u8(file, (uint8_t)(value & 0xff));
-    put_u8(file, (uint8_t)(value >> 8));
-}
-
-static void put_u32(file_builder *file, uint32_t value) {
-    put_u16(file, (uint16_t)(value & 0xffff));
-    put_u16(file, (uint16_t)(value >> 16));
-}
-
-static void put_header(file_builder *file, uint8_t tag, uint16_t length) {
-    put_u8(file, tag);
-    put_u16(file, length);
-}
-
-static void put_instruction(file_builder *file, uint8_t op, uint8_t a, uint8_t b, uint8_t w, uint32_t imm) {
-    put_u8(file, op);
-    put_u8(file, a);
-    put_u8(file, b);
-    put_u8(file, w);
-    put_u32(file, imm);
-}
-
-/* A target that claims a range for r1 and anything for the other registers. */
-static void put_target(file_builder *file, uint16_t index, uint8_t kind, uint32_t r1_lowest, uint32_t r1_highest) {
-    put_u16(file, index);
-    put_u8(file, kind);
-    put_u8(file, 0);
-    for (int r = 0; r < 8; r++) {
-        put_u32(file, r == 1 ? r1_lowest : 0);
-        put_u32(file, r == 1 ? r1_highest : UINT32_MAX);
-    }
 }
 
 static file_builder loop_module(void) {
@@ -82,7 +38,7 @@ static file_builder loop_module(void) {
     put_instruction(&file, 12, 0, 0, 0, 1); /* 3 jump 1 */
     put_header(&file, 3, 2 * 68);
     put_target(&file, 0, 1, 0, UINT32_MAX);                  /* indirect */
-    put_target(&file, 1, 0, BASE, (uint32_t)BASE + SIZE + 3); /* inner: DB to DL + 4 */
+    put_target(&file, 1, 0, BASE, (uint32_t)BASE + SIZE + 3); /* direct: DB to DL + 4 */
     return file;
 }
 

@@ -1,7 +1,7 @@
-//! Times the proved library beside the hand-written ones, on the same inputs in one run.
+//! Times the proved library beside the hand-written one, on the same inputs in one run.
 //!
 //! - `bench times`: nanoseconds, as bare numbers (`host/times` makes a table of them).
-//! - `bench count IMPL WORK N`: does one piece of work N times and prints how many instructions were judged or
+//! - `bench count SIDE WORK N`: does one piece of work N times and prints how many instructions were judged or
 //!   steps made, for a tool that counts the processor's instructions.
 //! - `bench write FOLDER`: writes the modules as files, and generated ones beside them.
 
@@ -10,12 +10,13 @@ mod work;
 
 use modules::generate::generate;
 use modules::random::Random;
+use sides::Side;
 use std::env;
 use std::process::ExitCode;
-use work::{Bench, Implementation, Work};
+use work::{Bench, Work};
 
 const USAGE: &str = "usage: bench times
-       bench count proved|handwritten|tuned read|verify|loop|mixed|judge-loop|judge-mixed N
+       bench count proved|hand-written read|verify|loop|mixed|judge-loop|judge-mixed N
        bench write FOLDER";
 
 /// How many generated files `bench write` adds.
@@ -29,7 +30,7 @@ fn main() -> ExitCode {
             time::print_times();
             Some(())
         }
-        ["count", implementation, work, times] => count(implementation, work, times),
+        ["count", side, work, times] => count(side, work, times),
         ["write", folder] => write(folder),
         _ => None,
     };
@@ -42,13 +43,13 @@ fn main() -> ExitCode {
     }
 }
 
-fn count(implementation: &str, work: &str, times: &str) -> Option<()> {
-    let implementation = Implementation::named(implementation)?;
+fn count(side: &str, work: &str, times: &str) -> Option<()> {
+    let side = Side::named(side)?;
     let work = Work::named(work)?;
     let times = times.parse().ok()?;
     let mut bench = Bench::new();
     bench.clear();
-    println!("{}", bench.repeat(implementation, work, times));
+    println!("{}", bench.repeat(side, work, times));
     Some(())
 }
 

@@ -1,37 +1,8 @@
-//! The pieces of work that are measured, each done by any of the implementations.
+//! The pieces of work that are measured, each done by either side.
 
-use handwritten::tuned;
 use modules::samples;
+use sides::{Machine, Side};
 use std::hint::black_box;
-
-#[derive(Clone, Copy, Debug, PartialEq, Eq)]
-pub enum Implementation {
-    Proved,
-    HandWritten,
-    Tuned,
-}
-
-impl Implementation {
-    pub const ALL: [Implementation; 3] = [
-        Implementation::Proved,
-        Implementation::HandWritten,
-        Implementation::Tuned,
-    ];
-
-    fn name(self) -> &'static str {
-        match self {
-            Implementation::Proved => "proved",
-            Implementation::HandWritten => "handwritten",
-            Implementation::Tuned => "tuned",
-        }
-    }
-
-    pub fn named(name: &str) -> Option<Implementation> {
-        Implementation::ALL
-            .into_iter()
-            .find(|one| one.name() == name)
-    }
-}
 
 #[derive(Clone, Copy, Debug, PartialEq, Eq)]
 pub enum Work {
@@ -105,12 +76,12 @@ impl Work {
 /// One run of the mixed module: long enough that judging the file at its start hardly counts.
 pub const MIXED_STEPS: u32 = 250_000;
 
-/// The modules, and a memory for each implementation in which the region begins at [`OFFSET`].
+/// The modules, and a memory for each side in which the region begins at [`OFFSET`].
 pub struct Bench {
     largest: Vec<u8>,
     document_loop: Vec<u8>,
     mixed: Vec<u8>,
-    memories: [Vec<u8>; 3],
+    memories: [Vec<u8>; 2],
 }
 
 const OFFSET: usize = 512;
@@ -122,11 +93,11 @@ impl Bench {
             largest: samples::largest().to_bytes(),
             document_loop: samples::document_loop().to_bytes(),
             mixed: samples::mixed().to_bytes(),
-            memories: [(); 3].map(|()| vec![0; MEMORY_LENGTH]),
+            memories: [(); 2].map(|()| vec![0; MEMORY_LENGTH]),
         };
         for (name, file) in bench.files() {
-            if let Err(refusal) = madsjirn::verify(file) {
-                panic!("the {name} module is {refusal}");
+            if let Err(refused) = Side::Proved.verify(file) {
+                panic!("the {name} module is refused: {refused:?}");
             }
         }
         bench
@@ -140,78 +111,57 @@ impl Bench {
         ]
     }
 
-    /// All memories as they were at first.
+    /// Both memories as they were at first.
     pub fn clear(&mut self) {
         for memory in &mut self.memories {
             memory.fill(0);
         }
     }
 
-    /// Whether all implementations have left the same memory.
+    /// Whether both sides have left the same memory.
     pub fn memories_agree(&self) -> bool {
-        self.memories
-            .iter()
-            .all(|memory| *memory == self.memories[0])
+        self.memories[0] == self.memories[1]
     }
 
     /// Does a piece of work `times` times. Answers how many units were done in all.
-    pub fn repeat(&mut self, implementation: Implementation, work: Work, times: u32) -> u64 {
-        let once = match implementation {
-            Implementation::Proved => proved,
-            Implementation::HandWritten => hand_written,
-            Implementation::Tuned => hand_tuned,
-        };
+    pub fn repeat(&mut self, side: Side, work: Work, times: u32) -> u64 {
         let file = match work {
             Work::Read | Work::Verify => &self.largest,
             Work::Loop | Work::JudgeLoop => &self.document_loop,
             Work::Mixed | Work::JudgeMixed => &self.mixed,
         };
-        let memory = &mut self.memories[implementation as usize];
+        let memory = &mut self.memories[side as usize];
         for _ in 0..times {
-            assert_eq!(once(file, memory, work), work.count(), "{}", work.name());
+            let count = do_once(side, file, memory, work);
+            assert_eq!(count, work.count(), "{}", work.name());
         }
         u64::from(work.count().max(1)) * u64::from(times)
     }
 }
 
-/// A function that does a piece of work with one implementation and answers the instructions judged, or the steps
-/// made. The three have the same calls and each its own types.
-macro_rules! doing {
-    ($name:ident, $implementation:ident) => {
-        fn $name(file: &[u8], memory: &mut [u8], work: Work) -> u32 {
-            match work {
-                Work::Read => {
-                    let module = $implementation::read(black_box(file));
-                    black_box(module)
-                        .expect("the module is readable")
-                        .instructions
-                }
-                Work::Verify => {
-                    let accepted = $implementation::verify(black_box(file));
-                    black_box(accepted)
-                        .expect("the module is accepted")
-                        .instructions
-                }
-                Work::Loop | Work::Mixed | Work::JudgeLoop | Work::JudgeMixed => {
-                    let mut machine = black_box($implementation::Machine {
-                        registers: [0; 8],
-                        pc: 0,
-                    });
-                    let run = $implementation::run(
-                        black_box(file),
-                        &mut machine,
-                        memory,
-                        black_box(OFFSET),
-                        black_box(work.budget()),
-                    );
-                    black_box(machine);
-                    black_box(run).expect("the run is made").steps
-                }
-            }
+/// Does a piece of work and answers the instructions judged, or the steps made.
+fn do_once(side: Side, file: &[u8], memory: &mut [u8], work: Work) -> u32 {
+    match work {
+        Work::Read => {
+            let read = side.read(black_box(file));
+            let [.., instructions, _] = black_box(read).expect("the module is readable");
+            instructions
         }
-    };
+        Work::Verify => {
+            let verified = side.verify(black_box(file));
+            let [instructions, _] = black_box(verified).expect("the module is accepted");
+            instructions
+        }
+        Work::Loop | Work::Mixed | Work::JudgeLoop | Work::JudgeMixed => {
+            let mut machine = Machine {
+                registers: [0; 8],
+                pc: black_box(0),
+            };
+            let (offset, budget) = (black_box(OFFSET), black_box(work.budget()));
+            let ran = side.run(black_box(file), &mut machine, memory, offset, budget);
+            black_box(&machine);
+            let (_, steps) = black_box(ran).expect("the run is made");
+            steps
+        }
+    }
 }
-
-doing!(proved, madsjirn);
-doing!(hand_written, handwritten);
-doing!(hand_tuned, tuned);

@@ -1,19 +1,20 @@
 //! The measured modules are what the table says of them.
 
-use madsjirn::{read, step, verify, Machine};
 use modules::encode::{op, Module};
 use modules::samples::{document_loop, largest, mixed};
+use sides::{Machine, Side};
 use std::collections::BTreeSet;
 
 /// Every step of the first steps: from which index to which.
-fn steps(module: &Module, count: usize) -> BTreeSet<(usize, usize)> {
+fn steps(side: Side, module: &Module, count: usize) -> BTreeSet<(usize, usize)> {
     let file = module.to_bytes();
     let mut machine = Machine::default();
     let mut memory = vec![0; module.layout.size as usize];
     let mut made = BTreeSet::new();
     for _ in 0..count {
         let from = usize::from(machine.pc);
-        step(&file, &mut machine, &mut memory, 0).expect("the step is made");
+        let made_one = side.step(&file, &mut machine, &mut memory, 0);
+        made_one.expect("the step is made");
         made.insert((from, usize::from(machine.pc)));
     }
     made
@@ -22,7 +23,10 @@ fn steps(module: &Module, count: usize) -> BTreeSet<(usize, usize)> {
 #[test]
 fn all_are_accepted() {
     for module in [document_loop(), largest(), mixed()] {
-        verify(&module.to_bytes()).expect("the module is accepted");
+        for side in Side::BOTH {
+            let verified = side.verify(&module.to_bytes());
+            verified.expect("the module is accepted");
+        }
     }
 }
 
@@ -30,8 +34,9 @@ fn all_are_accepted() {
 fn the_largest_is_the_largest() {
     let file = largest().to_bytes();
     assert_eq!(file.len(), 50_197);
-    let module = read(&file).expect("the module is readable");
-    assert_eq!((module.instructions, module.targets), (4096, 256));
+    for side in Side::BOTH {
+        assert_eq!(side.verify(&file), Ok([4096, 256]));
+    }
 }
 
 #[test]
@@ -42,8 +47,13 @@ fn all_kinds_are_in_the_largest() {
 
 #[test]
 fn the_mixed_goes_everywhere() {
-    let module = mixed();
-    let made = steps(&module, 100_000);
+    for side in Side::BOTH {
+        every_way_is_gone(side, &mixed());
+    }
+}
+
+fn every_way_is_gone(side: Side, module: &Module) {
+    let made = steps(side, module, 100_000);
     for (index, instruction) in module.code.iter().enumerate() {
         let ways = made.iter().filter(|(from, _)| *from == index).count();
         let expected = match instruction.op {

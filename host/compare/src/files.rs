@@ -1,10 +1,10 @@
 //! One generated file: what `read` and `verify` answer.
 
-use crate::answers::{HandWritten, Implementation, Proved};
 use crate::difference::hexadecimal;
 use crate::tally::Tally;
 use modules::generate::{generate, Generated, Origin};
 use modules::random::Random;
+use sides::Side;
 
 pub fn compare_file(seed: u64, case: u64, tally: &mut Tally) -> Result<(), String> {
     let mut random = Random::for_case(seed, case);
@@ -17,8 +17,8 @@ pub fn compare_file(seed: u64, case: u64, tally: &mut Tally) -> Result<(), Strin
 
 fn judge(generated: &Generated, tally: &mut Tally) -> Result<(), String> {
     let file = &generated.file;
-    let read = same("read", Proved::read(file), HandWritten::read(file))?;
-    let verified = same("verify", Proved::verify(file), HandWritten::verify(file))?;
+    let read = same("read", Side::BOTH.map(|side| side.read(file)))?;
+    let verified = same("verify", Side::BOTH.map(|side| side.verify(file)))?;
     if generated.origin == Origin::Valid && verified.is_err() {
         return Err(format!("made to be accepted, but refused: {verified:?}"));
     }
@@ -26,19 +26,14 @@ fn judge(generated: &Generated, tally: &mut Tally) -> Result<(), String> {
     Ok(())
 }
 
-/// The common answer.
-pub fn same<T: PartialEq + std::fmt::Debug>(
-    what: &str,
-    proved: T,
-    handwritten: T,
-) -> Result<T, String> {
+/// The common answer, of both sides' answers.
+pub fn same<T: PartialEq + std::fmt::Debug>(what: &str, answers: [T; 2]) -> Result<T, String> {
+    let [proved, handwritten] = answers;
     if proved == handwritten {
-        Ok(proved)
-    } else {
-        let names = (Proved::NAME, HandWritten::NAME);
-        let (one, other) = names;
-        Err(format!(
-            "{what} differs\n{one}: {proved:?}\n{other}: {handwritten:?}"
-        ))
+        return Ok(proved);
     }
+    let [one, other] = Side::BOTH.map(Side::name);
+    Err(format!(
+        "{what} differs\n{one}: {proved:?}\n{other}: {handwritten:?}"
+    ))
 }

@@ -1,6 +1,6 @@
 //! Compares the proved library with the hand-written one on generated modules and lists of runs.
 
-pub mod answers;
+mod counts;
 mod difference;
 mod files;
 mod lists;

@@ -1,19 +1,17 @@
 //! One list of runs on one machine and one memory: answers, machine and every byte of memory after each call.
 
-use crate::answers::{HandWritten, Implementation, Machine, Proved, Ran};
 use crate::difference::hexadecimal;
 use crate::files::same;
 use crate::plan::{self, Call};
 use crate::tally::Tally;
 use modules::generate::{generate_from, Generated, Origin};
 use modules::random::Random;
+use sides::ending::{OUT_OF_BUDGET, VIOLATED};
+use sides::{Machine, Ran, Side};
 use std::ops::Range;
 
 /// A run that ended within this many steps may be made again with budget `u32::MAX`.
 const KNOWN_TO_END: u32 = 5000;
-
-const VIOLATED: u32 = 3;
-const OUT_OF_BUDGET: u32 = 4;
 
 pub fn compare_list(seed: u64, case: u64, tally: &mut Tally) -> Result<(), String> {
     // Other numbers than those of the modules' cases.
@@ -36,7 +34,7 @@ pub fn compare_list(seed: u64, case: u64, tally: &mut Tally) -> Result<(), Strin
     Ok(())
 }
 
-/// One implementation's machine and memory.
+/// One side's machine and memory.
 #[derive(Clone, PartialEq)]
 struct State {
     machine: Machine,
@@ -55,15 +53,14 @@ struct List<'a> {
 
 impl List<'_> {
     fn new<'a>(random: &mut Random, generated: &'a Generated) -> List<'a> {
-        let size = Proved::read(&generated.file)
-            .ok()
-            .map(|module| module[1] as usize);
+        let read = Side::Proved.read(&generated.file);
+        let size = read.ok().map(|[_, size, ..]| size as usize);
         let length = plan::memory_length(random, size.unwrap_or(4096));
         let mut memory = vec![0; length];
         memory.fill_with(|| random.byte());
         let at_indirect = random.chance(70);
         let machine = plan::machine(random, &generated.module, at_indirect);
-        let accepted = Proved::verify(&generated.file).is_ok();
+        let accepted = Side::Proved.verify(&generated.file).is_ok();
         // A damaged file may be accepted with other tables than those known here.
         let safe = accepted && at_indirect && generated.origin != Origin::Damaged;
         let state = State { machine, memory };
@@ -115,17 +112,18 @@ impl List<'_> {
             mut machine,
             mut memory,
         } = self.handwritten.clone();
-        let ran = HandWritten::run(file, &mut machine, &mut memory, call.offset, KNOWN_TO_END);
+        let ran = Side::HandWritten.run(file, &mut machine, &mut memory, call.offset, KNOWN_TO_END);
         !matches!(ran, Ok((OUT_OF_BUDGET, _)))
     }
 
     fn make(&mut self, call: Call, tally: &mut Tally) -> Result<(), String> {
         let before = self.proved.clone();
         let file = &self.generated.file;
-        let proved = make_on::<Proved>(file, &mut self.proved, call);
-        let handwritten = make_on::<HandWritten>(file, &mut self.handwritten, call);
-        let ran = same("the answer", proved, handwritten)?;
-        same("the machine", self.proved.machine, self.handwritten.machine)?;
+        let proved = make_on(Side::Proved, file, &mut self.proved, call);
+        let handwritten = make_on(Side::HandWritten, file, &mut self.handwritten, call);
+        let ran = same("the answer", [proved, handwritten])?;
+        let machines = [self.proved.machine, self.handwritten.machine];
+        same("the machine", machines)?;
         self.look_at_memory(&before.memory, call.offset)?;
         if ran.is_err() && before != self.proved {
             return Err(format!("refused {ran:?}, but machine or memory changed"));
@@ -138,13 +136,14 @@ impl List<'_> {
     /// The same bytes on both sides, and no other than before outside the region.
     fn look_at_memory(&self, before: &[u8], offset: usize) -> Result<(), String> {
         let region = self.region(offset).unwrap_or(0..0);
-        for (state, name) in [
-            (&self.proved, Proved::NAME),
-            (&self.handwritten, HandWritten::NAME),
-        ] {
+        for (side, state) in Side::BOTH
+            .into_iter()
+            .zip([&self.proved, &self.handwritten])
+        {
             let kept = state.memory[..region.start] == before[..region.start]
                 && state.memory[region.end..] == before[region.end..];
             if !kept {
+                let name = side.name();
                 return Err(format!("{name}: memory outside the region changed"));
             }
         }
@@ -169,11 +168,11 @@ impl List<'_> {
     }
 }
 
-fn make_on<I: Implementation>(file: &[u8], state: &mut State, call: Call) -> Ran {
+fn make_on(side: Side, file: &[u8], state: &mut State, call: Call) -> Ran {
     let State { machine, memory } = state;
     if call.by_step {
-        I::step(file, machine, memory, call.offset)
+        side.step(file, machine, memory, call.offset)
     } else {
-        I::run(file, machine, memory, call.offset, call.budget)
+        side.run(file, machine, memory, call.offset, call.budget)
     }
 }

@@ -1,8 +1,8 @@
 //! What a list of runs is made on: memory, starting machine, and each call's offset, budget and host bytes.
 
-use crate::answers::Machine;
 use modules::encode::{op, Instruction, Layout, Module};
 use modules::random::Random;
+use sides::Machine;
 
 /// One call.
 #[derive(Clone, Copy, Debug)]
@@ -39,7 +39,7 @@ pub fn machine(random: &mut Random, module: &Module, at_indirect: bool) -> Machi
             put_at_a_limit(random, module, instruction, &mut registers);
         }
     }
-    (registers, pc)
+    Machine { registers, pc }
 }
 
 fn indirect_pc(random: &mut Random, module: &Module) -> u16 {

@@ -1,18 +1,21 @@
 //! How often each refusal and each ending occurred, so that nothing is believed compared that never happened.
 
-use crate::answers::{Ran, Read, Refused, Verified};
+use crate::counts::Counts;
 use madsjirn::{Ending, Rule};
 use modules::generate::Origin;
+use sides::{Ran, Read, Refused, Verdict};
+use std::collections::BTreeSet;
 use std::fmt;
 
 #[derive(Default)]
 pub struct Tally {
     /// Modules by origin, in the order of `Origin::ALL`, and how many of them were accepted.
     modules: [(u64, u64); 3],
-    read: [u64; 16],
-    verify: [u64; 16],
-    run: [u64; 16],
-    endings: [u64; 5],
+    /// Refusals by number; 0 counts what was not refused.
+    read: Counts,
+    verify: Counts,
+    run: Counts,
+    endings: Counts,
     lists: u64,
     calls: u64,
     steps: u64,
@@ -22,12 +25,12 @@ pub struct Tally {
 }
 
 impl Tally {
-    pub fn count_module(&mut self, origin: Origin, read: Read, verified: Verified) {
+    pub fn count_module(&mut self, origin: Origin, read: Read, verified: Verdict) {
         let (made, accepted) = &mut self.modules[origin as usize];
         *made += 1;
         *accepted += u64::from(verified.is_ok());
-        count(&mut self.read, read.err());
-        count(&mut self.verify, verified.err());
+        self.read.count(number(read.err()));
+        self.verify.count(number(verified.err()));
     }
 
     pub fn count_list(&mut self) {
@@ -37,9 +40,9 @@ impl Tally {
     pub fn count_call(&mut self, ran: Ran, safe: bool) {
         self.calls += 1;
         self.safe_calls += u64::from(safe);
-        count(&mut self.run, ran.err());
+        self.run.count(number(ran.err()));
         if let Ok((ending, steps)) = ran {
-            self.endings[ending as usize] += 1;
+            self.endings.count(ending);
             self.steps += u64::from(steps);
             self.longest_run = self.longest_run.max(steps);
         }
@@ -47,35 +50,48 @@ impl Tally {
 
     /// The refusals and endings that never occurred.
     pub fn missing(&self) -> Vec<String> {
-        let rules = Rule::ALL.into_iter().filter(|rule| {
-            let number = rule.number() as usize;
-            self.read[number] + self.verify[number] + self.run[number] == 0
+        let refusals = Rule::ALL.into_iter().filter(|rule| {
+            let times = self.refusals(rule.number());
+            times.iter().sum::<u64>() == 0
         });
         let endings = Ending::ALL.into_iter();
-        let endings = endings.filter(|ending| self.endings[ending.number() as usize] == 0);
-        rules
+        let endings = endings.filter(|ending| self.endings.of(ending.number()) == 0);
+        refusals
             .map(|rule| rule.to_string())
             .chain(endings.map(|ending| ending.to_string()))
             .collect()
     }
-}
 
-/// Index 0 counts what was not refused.
-fn count(numbers: &mut [u64; 16], refused: Option<Refused>) {
-    numbers[refused.map_or(0, |(number, _)| number as usize)] += 1;
-}
+    /// How often a refusal was answered by read, by verify and by run.
+    fn refusals(&self, number: u32) -> [u64; 3] {
+        [&self.read, &self.verify, &self.run].map(|counts| counts.of(number))
+    }
 
-impl fmt::Display for Tally {
-    fn fmt(&self, out: &mut fmt::Formatter<'_>) -> fmt::Result {
+    /// The refusals that have a name or occurred, and 0.
+    fn refusal_numbers(&self) -> BTreeSet<u32> {
+        let named = Rule::ALL.into_iter().map(Rule::number);
+        let occurred = [&self.read, &self.verify, &self.run].map(Counts::numbers);
+        let occurred = occurred.into_iter().flatten();
+        named.chain(occurred).chain([0]).collect()
+    }
+
+    /// The endings that have a name or occurred.
+    fn ending_numbers(&self) -> BTreeSet<u32> {
+        let named = Ending::ALL.into_iter().map(Ending::number);
+        named.chain(self.endings.numbers()).collect()
+    }
+
+    fn write_modules(&self, out: &mut fmt::Formatter<'_>) -> fmt::Result {
         let modules: u64 = self.modules.iter().map(|(made, _)| made).sum();
         writeln!(out, "{modules} modules, read and verified by both:")?;
         for (origin, (made, accepted)) in Origin::ALL.into_iter().zip(self.modules) {
-            writeln!(
-                out,
-                "  {:<12} {made:>9}, accepted {accepted:>9}",
-                origin.name()
-            )?;
+            let origin = origin.name();
+            writeln!(out, "  {origin:<12} {made:>9}, accepted {accepted:>9}")?;
         }
+        Ok(())
+    }
+
+    fn write_lists(&self, out: &mut fmt::Formatter<'_>) -> fmt::Result {
         let Tally {
             lists,
             calls,
@@ -84,36 +100,65 @@ impl fmt::Display for Tally {
             longest_run,
             ..
         } = self;
-        writeln!(out, "{lists} lists of runs, {calls} calls, {steps} steps on each side, at most {longest_run} in one call;")?;
+        write!(out, "{lists} lists of runs, {calls} calls, ")?;
+        writeln!(
+            out,
+            "{steps} steps on each side, at most {longest_run} in one call;"
+        )?;
         writeln!(
             out,
             "  {safe_calls} calls of accepted modules begun at an indirect target, none violated"
-        )?;
+        )
+    }
+
+    fn write_refusals(&self, out: &mut fmt::Formatter<'_>) -> fmt::Result {
         writeln!(
             out,
             "{:<34} {:>9} {:>9} {:>9}",
             "refusals", "read", "verify", "run"
         )?;
-        writeln!(
-            out,
-            "   0 {:<29} {:>9} {:>9} {:>9}",
-            "none", self.read[0], self.verify[0], self.run[0]
-        )?;
-        for rule in Rule::ALL {
-            let number = rule.number() as usize;
-            let (read, verify, run) = (self.read[number], self.verify[number], self.run[number]);
+        for number in self.refusal_numbers() {
+            let (name, [read, verify, run]) = (refusal_name(number), self.refusals(number));
             writeln!(
                 out,
-                "  {number:>2} {:<29} {read:>9} {verify:>9} {run:>9}",
-                rule.to_string()
+                "  {number:>2} {name:<29} {read:>9} {verify:>9} {run:>9}"
             )?;
         }
+        Ok(())
+    }
+
+    fn write_endings(&self, out: &mut fmt::Formatter<'_>) -> fmt::Result {
         writeln!(out, "endings")?;
-        for ending in Ending::ALL {
-            let number = ending.number();
-            let times = self.endings[number as usize];
-            writeln!(out, "  {number:>2} {:<29} {times:>9}", ending.to_string())?;
+        for number in self.ending_numbers() {
+            let (name, times) = (ending_name(number), self.endings.of(number));
+            writeln!(out, "  {number:>2} {name:<29} {times:>9}")?;
         }
         Ok(())
+    }
+}
+
+fn number(refused: Option<Refused>) -> u32 {
+    refused.map_or(0, |(number, _)| number)
+}
+
+fn refusal_name(number: u32) -> String {
+    match Rule::from_number(number) {
+        Some(rule) => rule.to_string(),
+        None if number == 0 => "none".into(),
+        None => "without a name".into(),
+    }
+}
+
+fn ending_name(number: u32) -> String {
+    let ending = Ending::from_number(number);
+    ending.map_or("without a name".into(), |ending| ending.to_string())
+}
+
+impl fmt::Display for Tally {
+    fn fmt(&self, out: &mut fmt::Formatter<'_>) -> fmt::Result {
+        self.write_modules(out)?;
+        self.write_lists(out)?;
+        self.write_refusals(out)?;
+        self.write_endings(out)
     }
 }

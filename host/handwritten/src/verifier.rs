@@ -1,46 +1,56 @@
 //! The claims: one pass upward through the code, with the ranges updated in place.
 
+use crate::decoder::Decoder;
 use crate::reader::{index, Layout, Parts, Target, MAX_INSTRUCTIONS};
 use crate::Refusal;
 
-/// Lowest and highest value of a register.
-type Range = [u32; 2];
+/// A register's lowest value in the low half and its highest in the high half, as in a claim.
+/// One word, so that a range is stored as a whole and a later load never waits for two stores.
+type Range = u64;
 type Ranges = [Range; 8];
 
-const ANYTHING: Range = [0, u32::MAX];
+const ANYTHING: Range = range(0, u32::MAX);
+
+const fn range(low: u32, high: u32) -> Range {
+    low as u64 | (high as u64) << 32
+}
+
+fn low(range: Range) -> u32 {
+    range as u32
+}
+
+fn high(range: Range) -> u32 {
+    (range >> 32) as u32
+}
+
+const WORDS: usize = MAX_INSTRUCTIONS / 32;
 
 /// Finds a target by its index: a bitmap, and how many targets lie below each word.
 struct Lookup<'a> {
     targets: &'a [Target],
-    bits: [u64; MAX_INSTRUCTIONS / 64],
-    below: [u8; MAX_INSTRUCTIONS / 64],
+    bits: [u32; WORDS],
+    below: [u8; WORDS],
 }
 
 impl<'a> Lookup<'a> {
-    fn new(targets: &'a [Target]) -> Self {
-        let mut bits = [0u64; MAX_INSTRUCTIONS / 64];
-        for target in targets {
+    /// Marks the targets. In place, because moving the tables would cost a copy.
+    fn mark(&mut self) {
+        for (rank, target) in self.targets.iter().enumerate() {
             let at = index(target);
-            bits[at / 64 % bits.len()] |= 1 << (at % 64);
-        }
-        let mut below = [0u8; MAX_INSTRUCTIONS / 64];
-        let mut count = 0u8;
-        for (word, below) in bits.iter().zip(&mut below) {
-            *below = count;
-            // Wraps only at the 256th target, and then no later word has a bit.
-            count = count.wrapping_add(word.count_ones() as u8);
-        }
-        Lookup {
-            targets,
-            bits,
-            below,
+            let word = at / 32 % WORDS;
+            // Indexes rise, so the first of a word comes first; other words aren't asked.
+            if self.bits[word] == 0 {
+                self.below[word] = rank as u8;
+            }
+            self.bits[word] |= 1 << (at % 32);
         }
     }
 
+    #[inline(always)]
     fn find(&self, at: u32) -> Option<&'a Target> {
-        let word = (at / 64) as usize;
+        let word = (at / 32) as usize;
         let bits = *self.bits.get(word)?;
-        let bit = 1u64 << (at % 64);
+        let bit = 1 << (at % 32);
         if bits & bit == 0 {
             return None;
         }
@@ -51,19 +61,19 @@ impl<'a> Lookup<'a> {
 
 fn claim(target: &Target) -> Ranges {
     let mut ranges = [ANYTHING; 8];
-    for (range, pair) in ranges.iter_mut().zip(target[4..].as_chunks::<8>().0) {
-        let pair = u64::from_le_bytes(*pair);
-        *range = [pair as u32, (pair >> 32) as u32];
+    for (range, pair) in ranges.iter_mut().zip(target[4..].as_chunks().0) {
+        *range = u64::from_le_bytes(*pair);
     }
     ranges
 }
 
 /// Whether every range lies within the target's claim.
+#[inline(always)]
 fn keeps(ranges: &Ranges, target: &Target) -> bool {
-    let claimed = claim(target);
     let mut broken = false;
-    for (have, claimed) in ranges.iter().zip(&claimed) {
-        broken |= (have[0] < claimed[0]) | (have[1] > claimed[1]);
+    for (&have, pair) in ranges.iter().zip(target[4..].as_chunks().0) {
+        let claimed = u64::from_le_bytes(*pair);
+        broken |= (low(have) < low(claimed)) | (high(have) > high(claimed));
     }
     !broken
 }
@@ -71,171 +81,206 @@ fn keeps(ranges: &Ranges, target: &Target) -> bool {
 /// Rule W. The ends lie in -2^32 to 2^33 - 1, so equal upper halves mean equal wraps.
 fn wrap(low: i64, high: i64) -> Range {
     if low >> 32 == high >> 32 {
-        [low as u32, high as u32]
+        range(low as u32, high as u32)
     } else {
         ANYTHING
     }
 }
 
 /// The common part, or the first range if there is none.
-fn cut(range: Range, by: Range) -> Range {
-    let low = range[0].max(by[0]);
-    let high = range[1].min(by[1]);
+fn cut(first: Range, by: Range) -> Range {
+    let low = low(first).max(low(by));
+    let high = high(first).min(high(by));
     if low <= high {
-        [low, high]
+        range(low, high)
     } else {
-        range
+        first
     }
 }
 
 /// The operands' ranges where the branch is taken.
 fn taken(w: u8, a: Range, b: Range) -> (Range, Range) {
     match w {
-        0 => {
-            let both = [a[0].max(b[0]), a[1].min(b[1])];
-            if both[0] <= both[1] {
-                (both, both)
-            } else {
-                (a, b)
-            }
-        }
+        0 => (cut(a, b), cut(b, a)),
         // Both cuts are empty or neither is.
-        1 if a[0] < b[1] => ([a[0], a[1].min(b[1] - 1)], [b[0].max(a[0] + 1), b[1]]),
+        1 if low(a) < high(b) => (
+            range(low(a), high(a).min(high(b) - 1)),
+            range(low(b).max(low(a) + 1), high(b)),
+        ),
         _ => (a, b),
     }
 }
 
 /// The operands' ranges where the branch isn't taken.
 fn passed(w: u8, a: Range, b: Range) -> (Range, Range) {
-    if w == 1 && b[0] <= a[1] {
-        ([a[0].max(b[0]), a[1]], [b[0], b[1].min(a[1])])
+    if w == 1 && low(b) <= high(a) {
+        (
+            range(low(a).max(low(b)), high(a)),
+            range(low(b), high(b).min(high(a))),
+        )
     } else {
         (a, b)
     }
 }
 
-fn refusal(number: u32, place: usize) -> Refusal {
-    Refusal {
+#[cold]
+fn refuse<T>(number: u32, place: usize) -> Result<T, Refusal> {
+    Err(Refusal {
         number,
         place: place as u32,
-    }
+    })
 }
 
+// Apart from its caller, as `machine::run` is.
+#[inline(never)]
 pub(crate) fn verify(parts: &Parts) -> Result<(), Refusal> {
     let Layout { base, size, guard } = parts.layout;
-    let region = [base, base + (size - 1)];
+    let last = base + (size - 1);
+    let region = range(base, last);
     let least = i64::from(base) - i64::from(guard);
-    let most = i64::from(region[1]) + i64::from(guard);
-    let lookup = Lookup::new(parts.targets);
+    // One above the last byte in reach, as `to` is one above the last byte of an access.
+    let most = i64::from(last) + i64::from(guard) + 1;
+    let code = parts.code;
+    let mut lookup = Lookup {
+        targets: parts.targets,
+        bits: [0; WORDS],
+        below: [0; WORDS],
+    };
+    lookup.mark();
 
     // The first target has index 0, so the targets cut the code into blocks that begin with one.
+    let mut i = 0;
     let mut targets = parts.targets.iter();
     let mut next = targets.next();
-    'blocks: while let Some(target) = next {
+    while let Some(target) = next {
         next = targets.next();
-        let start = index(target);
-        let end = next.map_or(parts.code.len(), index);
-        let block = parts.code.get(start..end).unwrap_or_default();
+        let end = next.map_or(code.len(), index);
+        let block = code.get(..end).unwrap_or(code);
         let mut ranges = claim(target);
 
-        for (i, instruction) in block.iter().enumerate() {
-            let [op, a, b, w, i0, i1, i2, i3] = *instruction;
-            let (a, b) = (usize::from(a & 7), usize::from(b & 7));
-            let imm = u32::from_le_bytes([i0, i1, i2, i3]);
+        let closed = loop {
+            let Some(instruction) = block.get(i) else {
+                break false;
+            };
+            let ins = Decoder(instruction);
+            let (op, a, b, w, imm) = (ins.op(), ins.a(), ins.b(), ins.w(), ins.imm());
             let signed = i64::from(imm as i32);
-            match op & 15 {
-                1 => ranges[a] = [imm; 2],
+            let reaches = |x: Range| {
+                let from = i64::from(low(x)) + signed;
+                let to = i64::from(high(x)) + signed + i64::from(w);
+                from >= least && to <= most
+            };
+            match op {
+                1 => ranges[a] = range(imm, imm),
                 2 => ranges[a] = ranges[b],
                 3 => {
-                    let ([al, ah], [bl, bh]) = (ranges[a], ranges[b]);
-                    ranges[a] = wrap(i64::from(al) + i64::from(bl), i64::from(ah) + i64::from(bh));
+                    let (x, y) = (ranges[a], ranges[b]);
+                    ranges[a] = wrap(
+                        i64::from(low(x)) + i64::from(low(y)),
+                        i64::from(high(x)) + i64::from(high(y)),
+                    );
                 }
                 4 => {
-                    let [low, high] = ranges[a];
-                    ranges[a] = wrap(i64::from(low) + signed, i64::from(high) + signed);
+                    let x = ranges[a];
+                    ranges[a] = wrap(i64::from(low(x)) + signed, i64::from(high(x)) + signed);
                 }
                 5 => {
-                    let ([al, ah], [bl, bh]) = (ranges[a], ranges[b]);
-                    ranges[a] = wrap(i64::from(al) - i64::from(bh), i64::from(ah) - i64::from(bl));
+                    let (x, y) = (ranges[a], ranges[b]);
+                    ranges[a] = wrap(
+                        i64::from(low(x)) - i64::from(high(y)),
+                        i64::from(high(x)) - i64::from(low(y)),
+                    );
                 }
-                6 => ranges[a] = [0, ranges[a][1].min(imm)],
+                6 => ranges[a] = range(0, high(ranges[a]).min(imm)),
                 7 => {
-                    let [low, high] = ranges[a];
-                    if low < region[0] || high > region[1] {
-                        ranges[a] = region;
-                    }
+                    let x = ranges[a];
+                    let inside = (low(x) >= base) & (high(x) <= last);
+                    ranges[a] = if inside { x } else { region };
                 }
-                8 => ranges[a] = ranges[a].map(|end| end >> (w & 31)),
+                8 => {
+                    let x = ranges[a];
+                    ranges[a] = range(low(x) >> (w & 31), high(x) >> (w & 31));
+                }
                 9 => {
-                    let [low, high] = ranges[a];
-                    ranges[a] = if (low ^ high) >> 31 == 0 {
-                        [low, high].map(|end| ((end as i32) >> (w & 31)) as u32)
+                    let x = ranges[a];
+                    let shift = |end: u32| ((end as i32) >> (w & 31)) as u32;
+                    let one_side = (low(x) ^ high(x)) >> 31 == 0;
+                    ranges[a] = if one_side {
+                        range(shift(low(x)), shift(high(x)))
                     } else {
                         ANYTHING
                     };
                 }
-                10 | 11 => {
-                    let [low, high] = ranges[b];
-                    let width = i64::from(w & 7);
-                    if i64::from(low) + signed < least
-                        || i64::from(high) + signed + width - 1 > most
-                    {
-                        return Err(refusal(10, start + i));
+                10 => {
+                    if !reaches(ranges[b]) {
+                        return refuse(10, i);
                     }
                     if imm == 0 {
                         ranges[b] = cut(ranges[b], region);
                     }
                     // After the cut, so that a load into b keeps the loaded range.
-                    if op == 10 {
-                        ranges[a] = [0, u32::MAX >> ((32 - 8 * u32::from(w)) & 31)];
+                    ranges[a] = range(0, u32::MAX >> ((32 - 8 * u32::from(w)) & 31));
+                }
+                11 => {
+                    if !reaches(ranges[b]) {
+                        return refuse(10, i);
+                    }
+                    if imm == 0 {
+                        ranges[b] = cut(ranges[b], region);
                     }
                 }
                 13 => {
                     let Some(aim) = lookup.find(imm) else {
-                        return Err(refusal(8, start + i));
+                        return refuse(8, i);
                     };
-                    let before = (ranges[a], ranges[b]);
+                    let (x, y) = (ranges[a], ranges[b]);
                     if a != b {
-                        (ranges[a], ranges[b]) = taken(w, before.0, before.1);
+                        (ranges[a], ranges[b]) = taken(w, x, y);
                     }
                     if !keeps(&ranges, aim) {
                         // Running off the end comes before a broken claim.
-                        let last = start + i + 1 == parts.code.len();
-                        return Err(refusal(if last { 13 } else { 11 }, start + i));
+                        return refuse(if i + 1 == code.len() { 13 } else { 11 }, i);
                     }
                     if a != b {
-                        (ranges[a], ranges[b]) = passed(w, before.0, before.1);
+                        (ranges[a], ranges[b]) = passed(w, x, y);
                     }
                 }
                 14 => {}
                 // Halt, jump and jumpr have no next edge, so they must end the block.
-                op => {
-                    if op == 12 {
-                        let Some(aim) = lookup.find(imm) else {
-                            return Err(refusal(8, start + i));
-                        };
-                        if !keeps(&ranges, aim) {
-                            return Err(refusal(11, start + i));
-                        }
-                    } else if op == 15 {
-                        // At the block's start it's a target itself, whatever stands before it.
-                        let before = i.checked_sub(1).and_then(|i| block.get(i));
-                        if before.is_none_or(|before| before[..2] != [14, instruction[1]]) {
-                            return Err(refusal(9, start + i));
-                        }
+                12 => {
+                    let Some(aim) = lookup.find(imm) else {
+                        return refuse(8, i);
+                    };
+                    if !keeps(&ranges, aim) {
+                        return refuse(11, i);
                     }
-                    if i + 1 < block.len() {
-                        return Err(refusal(12, start + i + 1));
-                    }
-                    continue 'blocks;
+                    break true;
                 }
+                15 => {
+                    // At the block's start it's a target itself, whatever stands before it.
+                    let checked = i > index(target)
+                        && code[i - 1][0] == 14
+                        && code[i - 1][1] == instruction[1];
+                    if !checked {
+                        return refuse(9, i);
+                    }
+                    break true;
+                }
+                _ => break true,
             }
+            i += 1;
+        };
+        if closed {
+            i += 1;
+            if i < end {
+                return refuse(12, i);
+            }
+            continue;
         }
-
         // Control falls out of the block.
         match next {
-            None => return Err(refusal(13, end - 1)),
-            Some(next) if !keeps(&ranges, next) => return Err(refusal(11, end - 1)),
+            None => return refuse(13, i - 1),
+            Some(next) if !keeps(&ranges, next) => return refuse(11, i - 1),
             Some(_) => {}
         }
     }

@@ -1,6 +1,6 @@
 //! What a module is, what a run is made on and how it ends.
 
-use std::fmt;
+use core::fmt;
 
 /// The machine record that a host lends to a run.
 #[derive(Clone, Copy, Debug, Default, PartialEq, Eq, Hash)]
@@ -34,15 +34,6 @@ pub struct Module {
     pub targets: u32,
 }
 
-/// An accepted module: one that keeps rules 1 to 13.
-#[derive(Clone, Copy, Debug, PartialEq, Eq, Hash)]
-pub struct Accepted {
-    /// How many instructions it has, 1 to 4,096.
-    pub instructions: u32,
-    /// How many targets (document 01's "doors") it has, 1 to 256.
-    pub targets: u32,
-}
-
 /// How a run ended.
 #[derive(Clone, Copy, Debug, PartialEq, Eq, PartialOrd, Ord, Hash)]
 #[repr(u32)]
@@ -54,7 +45,7 @@ pub enum Ending {
     /// A check found no indirect target's index in its register; document 01's "turned away".
     Denied = 2,
     /// An access reached past the guard zones, or a step led to no permitted place; document 01's "strayed".
-    /// A run of an accepted module that begins at an indirect target never ends so.
+    /// A run of an accepted module that begins at an indirect target never ends so: see [`Verified`](crate::Verified).
     Violated = 3,
     /// The budget is used and the run could go on; document 01's "spent".
     OutOfBudget = 4,

@@ -1,6 +1,6 @@
-//! The four functions. Each turns the numbers of a C answer into types.
+//! Reading and running. Each function turns the numbers of a C answer into types.
 
-use crate::answers::{Accepted, Ending, Layout, Machine, Module, Run};
+use crate::answers::{Ending, Layout, Machine, Module, Run};
 use crate::ffi;
 use crate::refusal::{Refusal, Rule};
 
@@ -37,31 +37,11 @@ pub fn read(file: &[u8]) -> Result<Module, Refusal> {
     Ok(module)
 }
 
-/// Judges a module: rules 1 to 13. It is accepted exactly if it keeps them all.
-///
-/// ```
-/// let refusal = madsjirn::verify(&[1, 12, 0]).unwrap_err();
-/// assert_eq!((refusal.rule, refusal.place), (madsjirn::Rule::Truncated, 0));
-/// ```
-///
-/// # Panics
-///
-/// If the library's answer is none that the C interface allows, which the proved library never gives.
-pub fn verify(file: &[u8]) -> Result<Accepted, Refusal> {
-    let answer = ffi::verify(file);
-    let accepted = Accepted {
-        instructions: answer.instructions,
-        targets: answer.targets,
-    };
-    let rest = [accepted.instructions, accepted.targets];
-    judged(answer.refusal, answer.place, rest == [0; 2])?;
-    Ok(accepted)
-}
-
 /// Runs a module for at most `budget` steps. Its region is the layout's size bytes of `memory` from `offset` on.
 ///
 /// It changes the machine and bytes of the region, and no other byte. The module need not be accepted,
 /// only readable: refusals are 1 to 7, then 14 and 15. A refusal leaves machine and memory as they were.
+/// For an accepted module there is [`Verified::run`](crate::Verified::run), with its promise.
 ///
 /// ```
 /// use madsjirn::{run, Machine};
@@ -118,7 +98,7 @@ fn made(answer: ffi::Answer) -> Result<Run, Refusal> {
 }
 
 /// The refusal, if there is one. The members after it must then be `empty`.
-fn judged(refusal: u32, place: u32, empty: bool) -> Result<(), Refusal> {
+pub(crate) fn judged(refusal: u32, place: u32, empty: bool) -> Result<(), Refusal> {
     if refusal == 0 {
         return Ok(());
     }

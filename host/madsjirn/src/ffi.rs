@@ -35,12 +35,6 @@ pub(crate) struct Answer {
     pub(crate) steps: u32,
 }
 
-// The sizes that the header asserts.
-const _: () = assert!(size_of::<Machine>() == 36);
-const _: () = assert!(size_of::<Module>() == 28);
-const _: () = assert!(size_of::<Verdict>() == 16);
-const _: () = assert!(size_of::<Answer>() == 16);
-
 extern "C" {
     fn madsjirn_read(file: *const u8, file_length: usize) -> Module;
     fn madsjirn_verify(file: *const u8, file_length: usize) -> Verdict;

@@ -2,14 +2,17 @@
 //!
 //! Every function takes anything: there is nothing to test beforehand. It gives the result or a
 //! [`Refusal`], and a refusal leaves the machine and every byte of the memory as they were.
-//! Nothing is kept between calls: each gets the module's bytes and judges them.
+//! Nothing is kept between calls: each gets the module's bytes and judges them. There is no heap.
+//!
+//! [`verify`] makes a [`Verified`] of an accepted module, and with it comes
+//! [the promise](Verified#the-promise): begun at an indirect target, it never leaves its region and guard zones.
 //!
 //! What the functions answer is proved. Not proved is this wrapper, which only turns numbers into types.
 //!
 //! # Document 01's loop
 //!
 //! ```
-//! use madsjirn::{read, run, step, verify, Ending, Machine, Rule};
+//! use madsjirn::{read, verify, Ending, Machine, Rule};
 //!
 //! # fn main() -> Result<(), madsjirn::Refusal> {
 //! let mut file = vec![0x01, 12, 0];
@@ -32,24 +35,25 @@
 //!
 //! let module = read(&file)?;
 //! assert_eq!((module.layout.base, module.layout.size), (0x2000_0000, 4096));
-//! let accepted = verify(&file)?;
-//! assert_eq!((accepted.instructions, accepted.targets), (4, 2));
+//! let verified = verify(&file)?;
+//! assert_eq!((verified.instructions(), verified.targets()), (4, 2));
 //!
 //! // The region is 4,096 bytes from offset 1,000 on; no other byte can change.
 //! let mut memory = vec![0; 10_000];
 //! let mut machine = Machine::default();
-//! let first = step(&file, &mut machine, &mut memory, 1_000)?;
+//! let first = verified.step(&mut machine, &mut memory, 1_000)?;
 //! assert_eq!((first.ending, first.steps), (Ending::OutOfBudget, 1));
-//! let rest = run(&file, &mut machine, &mut memory, 1_000, 1_000_000)?;
+//! let rest = verified.run(&mut machine, &mut memory, 1_000, 1_000_000)?;
 //! assert_eq!((rest.ending, rest.steps), (Ending::Trapped, 3_073));
 //! assert_eq!((machine.pc, machine.registers[1]), (1, 0x2000_1000));
 //!
-//! let refusal = run(&file, &mut machine, &mut memory, 9_000, 1).unwrap_err();
+//! let refusal = verified.run(&mut machine, &mut memory, 9_000, 1).unwrap_err();
 //! assert_eq!((refusal.rule, refusal.place), (Rule::NoRoom, 0));
 //! # Ok(())
 //! # }
 //! ```
 
+#![no_std]
 #![deny(missing_docs)]
 #![deny(unsafe_code)]
 
@@ -57,8 +61,11 @@ mod answers;
 mod calls;
 #[allow(unsafe_code)]
 mod ffi;
+mod members;
 mod refusal;
+mod verified;
 
-pub use answers::{Accepted, Ending, Layout, Machine, Module, Run};
-pub use calls::{read, run, step, verify};
+pub use answers::{Ending, Layout, Machine, Module, Run};
+pub use calls::{read, run, step};
 pub use refusal::{Refusal, Rule};
+pub use verified::{verify, Verified};

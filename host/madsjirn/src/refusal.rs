@@ -1,7 +1,7 @@
 //! Why a module or a run is refused.
 
-use std::error::Error;
-use std::fmt;
+use core::error::Error;
+use core::fmt;
 
 /// A rule that a refused module or run breaks. The numbers and words are those of document 01's table.
 #[derive(Clone, Copy, Debug, PartialEq, Eq, PartialOrd, Ord, Hash)]

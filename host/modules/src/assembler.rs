@@ -89,10 +89,10 @@ impl Assembler {
         self.module.targets.push(target);
     }
 
-    /// An inner target here, with its claim.
-    pub fn inner(&mut self, name: &'static str, claim: [Range; 8]) {
+    /// A direct target here, with its claim.
+    pub fn direct(&mut self, name: &'static str, claim: [Range; 8]) {
         self.names.push((name, self.here().into()));
-        let target = Target::inner(self.here(), claim);
+        let target = Target::direct(self.here(), claim);
         self.module.targets.push(target);
     }
 

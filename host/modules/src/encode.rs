@@ -84,8 +84,17 @@ pub struct Target {
     pub claim: [Range; 8],
 }
 
-/// The kinds of a target.
-pub const INNER: u8 = 0;
+/// A claim that names ranges for some registers.
+pub fn claim(ranges: &[(usize, Range)]) -> [Range; 8] {
+    let mut claim = [ANYTHING; 8];
+    for &(register, range) in ranges {
+        claim[register] = range;
+    }
+    claim
+}
+
+/// The kinds of a target; document 01's words are "inner" and "open".
+pub const DIRECT: u8 = 0;
 pub const INDIRECT: u8 = 1;
 
 impl Target {
@@ -98,10 +107,10 @@ impl Target {
         }
     }
 
-    pub fn inner(index: u16, claim: [Range; 8]) -> Target {
+    pub fn direct(index: u16, claim: [Range; 8]) -> Target {
         Target {
             index,
-            kind: INNER,
+            kind: DIRECT,
             zero: 0,
             claim,
         }
@@ -121,6 +130,15 @@ pub struct Module {
 }
 
 impl Module {
+    /// A module in the layout of document 01's known outcomes.
+    pub fn known(code: &[Instruction], targets: &[Target]) -> Module {
+        Module {
+            layout: Layout::KNOWN,
+            code: code.to_vec(),
+            targets: targets.to_vec(),
+        }
+    }
+
     /// The module's file. Lengths are cut to 16 bits, as the file has no more for them.
     pub fn to_bytes(&self) -> Vec<u8> {
         let Layout { base, size, guard } = self.layout;
@@ -141,14 +159,6 @@ impl Module {
             }
         });
         file
-    }
-
-    /// The target at an index, if there is one.
-    pub fn target_at(&self, index: usize) -> Option<&Target> {
-        let found = self
-            .targets
-            .binary_search_by_key(&index, |target| usize::from(target.index));
-        found.ok().map(|number| &self.targets[number])
     }
 }
 

@@ -1,7 +1,8 @@
-//! Module files for tests and measurements: an encoder, samples and a generator.
+//! Module files for tests and measurements: an encoder, samples, a generator and cases for the gate program.
 
 pub mod assembler;
 pub mod encode;
+pub mod gate;
 pub mod generate;
 pub mod random;
 mod ranges;

@@ -1,7 +1,7 @@
 //! Three accepted modules: document 01's loop, the largest module there can be, and a mixed one that never ends.
 
 use crate::assembler::*;
-use crate::encode::{test, Instruction, Layout, Module, Range, Target, ANYTHING};
+use crate::encode::{claim, test, Instruction, Layout, Module, Target};
 
 /// Document 01's loop. From r1 = 0 it traps after [`LOOP_STEPS`] steps.
 pub fn document_loop() -> Module {
@@ -9,7 +9,7 @@ pub fn document_loop() -> Module {
     let mut code = Assembler::new(layout);
     code.indirect("start");
     code.put(&[guard(1)]);
-    code.inner("again", claim(&[(1, (layout.first(), layout.last() + 4))]));
+    code.direct("again", claim(&[(1, (layout.first(), layout.last() + 4))]));
     code.put(&[load(0, 1, 4, 0), addi(1, 4)]);
     code.put_to(jump(0), "again");
     code.finish()
@@ -17,19 +17,10 @@ pub fn document_loop() -> Module {
 
 pub const LOOP_STEPS: u32 = 3074;
 
-/// A claim that names ranges for some registers.
-fn claim(ranges: &[(usize, Range)]) -> [Range; 8] {
-    let mut claim = [ANYTHING; 8];
-    for &(register, range) in ranges {
-        claim[register] = range;
-    }
-    claim
-}
-
 /// 4,096 instructions of all sixteen kinds and 256 targets, in blocks of sixteen instructions with a target each.
 pub fn largest() -> Module {
     let layout = Layout::KNOWN;
-    let inner = claim(&[(1, layout.region()), (4, (0, 255))]);
+    let direct = claim(&[(1, layout.region()), (4, (0, 255))]);
     let mut module = Module {
         layout,
         code: Vec::new(),
@@ -40,7 +31,7 @@ pub fn largest() -> Module {
         module.targets.push(if block % 4 == 0 {
             Target::indirect(index)
         } else {
-            Target::inner(index, inner)
+            Target::direct(index, direct)
         });
         module.code.extend(block_body(block));
         module.code.extend(block_end(block));
@@ -57,7 +48,7 @@ fn indirect_index(block: u32) -> u32 {
     block_index(block) / 64 * 64
 }
 
-/// Thirteen instructions. After them r1 is in the region and r4 in 0 to 255, as the inner targets claim.
+/// Thirteen instructions. After them r1 is in the region and r4 in 0 to 255, as the direct targets claim.
 fn block_body(block: u32) -> [Instruction; 13] {
     let width = [1, 2, 4][block as usize % 3];
     let amount = (block % 32) as u8;
@@ -80,7 +71,7 @@ fn block_body(block: u32) -> [Instruction; 13] {
     ]
 }
 
-/// Three instructions: on to the next block (an inner target), a jump, a halt or an indirect jump.
+/// Three instructions: on to the next block (a direct target), a jump, a halt or an indirect jump.
 fn block_end(block: u32) -> [Instruction; 3] {
     let to = indirect_index(block);
     match block % 8 {
@@ -110,19 +101,19 @@ pub fn mixed() -> Module {
     code.put_to(branch(4, 5, test::BELOW, 0), "small");
     code.put(&[sub(4, 5), sar(3, 3)]);
 
-    code.inner("small", small);
+    code.direct("small", small);
     code.put(&[store(4, 1, 1, 17), load(6, 1, 2, 2), add(3, 6)]);
     code.put(&[addi(1, 37), andi(1, POINTER_BITS), guard(1)]);
     code.put(&[store(3, 1, 2, 0)]);
     code.put_to(branch(3, 2, test::SIGNED_BELOW, 0), "signed");
     code.put(&[sub(2, 3), load(0, 1, 1, 0), add(3, 0)]);
 
-    code.inner("signed", pointer);
+    code.direct("signed", pointer);
     code.put(&[copy(0, 3), shr(0, 9), andi(0, 3), set(5, 0)]);
     code.put_to(branch(0, 5, test::EQUAL, 0), "sum");
 
     // "even" and "odd" stand 16 apart, so that one bit of r3 chooses between them.
-    code.inner("choose", pointer);
+    code.direct("choose", pointer);
     code.put(&[copy(7, 3), andi(7, 16)]);
     code.put_to(addi(7, 0), "even");
     code.put(&[check(7), jumpr(7)]);
@@ -141,9 +132,9 @@ pub fn mixed() -> Module {
     code.put(&[add(3, 2), store(3, 1, 1, -1)]);
     code.put_to(jump(0), "start");
 
-    code.inner("sum", pointer);
+    code.direct("sum", pointer);
     code.put(&[set(6, 0), set(5, 8)]);
-    code.inner("next", counted);
+    code.direct("next", counted);
     code.put(&[load(2, 1, 4, 0), add(3, 2), addi(1, 4), guard(1)]);
     code.put(&[addi(6, 1), set(5, 8)]);
     code.put_to(branch(6, 5, test::BELOW, 0), "next");

@@ -21,7 +21,7 @@ impl Claims {
                 if index == 0 || random.chance(40) {
                     Target::indirect(index as u16)
                 } else {
-                    Target::inner(index as u16, [ANYTHING; 8])
+                    Target::direct(index as u16, [ANYTHING; 8])
                 }
             })
             .collect();

@@ -95,7 +95,7 @@ fn target_between(random: &mut Random, module: &mut Module) {
         let target = if random.chance(50) {
             Target::indirect(at as u16)
         } else {
-            Target::inner(at as u16, [ANYTHING; 8])
+            Target::direct(at as u16, [ANYTHING; 8])
         };
         module.targets.insert(number, target);
     }
@@ -131,13 +131,13 @@ fn constant_aside(random: &mut Random, module: &mut Module) {
     }
 }
 
-/// A range of an inner target's claim, by preference one that claims something.
+/// A range of a direct target's claim, by preference one that claims something.
 fn claimed_range<'a>(random: &mut Random, module: &'a mut Module) -> Option<&'a mut (u32, u32)> {
-    let inner = module
+    let direct = module
         .targets
         .iter_mut()
         .filter(|target| !target.is_indirect());
-    let ranges = inner.flat_map(|target| target.claim.iter_mut());
+    let ranges = direct.flat_map(|target| target.claim.iter_mut());
     let mut claimed: Vec<&mut (u32, u32)> = ranges.filter(|range| **range != ANYTHING).collect();
     if claimed.is_empty() {
         return None;
@@ -214,7 +214,7 @@ fn neighbours_swapped(random: &mut Random, module: &mut Module) {
     }
 }
 
-/// An indirect target becomes inner, or the other way round.
+/// An indirect target becomes direct, or the other way round.
 fn kind_turned(random: &mut Random, module: &mut Module) {
     if module.targets.len() > 1 {
         let number = 1 + random.below(module.targets.len() - 1);

@@ -1,7 +1,7 @@
 //! The file's form: layout, instructions and targets by themselves. Rules 5 to 7.
 
 use super::{any_instruction, aside, Break};
-use crate::encode::{Module, Target, INNER};
+use crate::encode::{Module, Target, DIRECT};
 use crate::random::Random;
 
 pub const LAYOUT: &[Break] = &[size, base, guard_size];
@@ -127,7 +127,7 @@ fn first_target(random: &mut Random, module: &mut Module) {
     let other = random.chance(50);
     let first = &mut module.targets[0];
     if other {
-        first.kind = INNER;
+        first.kind = DIRECT;
     } else {
         first.index = 1;
     }

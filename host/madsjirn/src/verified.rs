@@ -1,0 +1,147 @@
+//! Judging a module, and what is promised of one that is accepted.
+
+use crate::answers::{Machine, Run};
+use crate::calls::{judged, run, step};
+use crate::ffi;
+use crate::refusal::Refusal;
+
+/// Judges a module: rules 1 to 13. It is accepted exactly if it keeps them all.
+///
+/// ```
+/// use madsjirn::{verify, Rule};
+///
+/// let refusal = verify(b"").unwrap_err();
+/// assert_eq!((refusal.rule, refusal.place), (Rule::Truncated, 0));
+/// ```
+///
+/// # Panics
+///
+/// If the library's answer is none that the C interface allows, which the proved library never gives.
+pub fn verify(file: &[u8]) -> Result<Verified<'_>, Refusal> {
+    let answer = ffi::verify(file);
+    let (instructions, targets) = (answer.instructions, answer.targets);
+    judged(
+        answer.refusal,
+        answer.place,
+        [instructions, targets] == [0; 2],
+    )?;
+    Ok(Verified {
+        file,
+        instructions,
+        targets,
+    })
+}
+
+/// An accepted module: bytes that keep rules 1 to 13, borrowed, so that they stay what was judged.
+///
+/// # The promise
+///
+/// Let a run begin with a machine whose pc is an indirect target (document 01's "open door"; index 0 is one in every
+/// module) and whose registers are anything. Then neither it nor any later run on the machine that it left ends in
+/// [`Ending::Violated`](crate::Ending::Violated), whatever the host writes into the region before and between
+/// them. Every byte that they reach for is in the region or its guard zones.
+///
+/// The promise is lost where the host sets the pc to what is no indirect target, or changes the registers of a
+/// machine that stands elsewhere.
+///
+/// ```
+/// use madsjirn::{verify, Ending, Machine};
+///
+/// # fn main() -> Result<(), madsjirn::Refusal> {
+/// let mut file = vec![0x01, 12, 0];
+/// for word in [0x2000_0000u32, 4096, 256] {
+///     file.extend(word.to_le_bytes()); // base, size, guard
+/// }
+/// file.extend([0x02, 3 * 8, 0]);
+/// file.extend([7, 1, 0, 0, 0, 0, 0, 0]); // 0 guard r1
+/// file.extend([10, 0, 1, 4, 0, 0, 0, 0]); // 1 load r0, r1, width 4, imm 0
+/// file.extend([0; 8]); // 2 halt
+/// file.extend([0x03, 68, 0]);
+/// file.extend([0, 0, 1, 0]); // index 0 is an indirect target
+/// file.extend([[0u32, u32::MAX]; 8].into_iter().flatten().flat_map(u32::to_le_bytes));
+///
+/// let verified = verify(&file)?;
+/// assert_eq!((verified.instructions(), verified.targets()), (3, 1));
+///
+/// let mut machine = Machine { registers: [0xffff_ffff; 8], pc: 0 };
+/// let mut memory = [0; 4096];
+/// let first = verified.step(&mut machine, &mut memory, 0)?;
+/// assert_eq!(first.ending, Ending::OutOfBudget);
+/// memory.fill(0xff); // whatever the host writes
+/// let rest = verified.run(&mut machine, &mut memory, 0, 1_000)?;
+/// assert_eq!((rest.ending, machine.registers[1]), (Ending::Trapped, 0x2000_0fff));
+/// # Ok(())
+/// # }
+/// ```
+///
+/// Only [`verify`] makes one:
+///
+/// ```compile_fail,E0451
+/// let forged = madsjirn::Verified { file: b"no module", instructions: 1, targets: 1 };
+/// ```
+///
+/// And its bytes cannot change while it is there:
+///
+/// ```compile_fail,E0506
+/// let mut file = [0; 189];
+/// let verified = madsjirn::verify(&file);
+/// file[18] = 10;
+/// drop(verified);
+/// ```
+#[derive(Clone, Copy, Debug, PartialEq, Eq, Hash)]
+pub struct Verified<'a> {
+    file: &'a [u8],
+    instructions: u32,
+    targets: u32,
+}
+
+impl<'a> Verified<'a> {
+    /// The module's bytes.
+    pub fn file(&self) -> &'a [u8] {
+        self.file
+    }
+
+    /// How many instructions it has, 1 to 4,096.
+    pub fn instructions(&self) -> u32 {
+        self.instructions
+    }
+
+    /// How many targets (document 01's "doors") it has, 1 to 256.
+    pub fn targets(&self) -> u32 {
+        self.targets
+    }
+
+    /// Runs it for at most `budget` steps, with [the promise](Verified#the-promise).
+    ///
+    /// Its region is the layout's size bytes of `memory` from `offset` on. It changes the machine and bytes of the
+    /// region, and no other byte. Refusals are 14 and 15 alone, and leave machine and memory as they were.
+    ///
+    /// # Panics
+    ///
+    /// If the library's answer is none that the C interface allows, which the proved library never gives.
+    pub fn run(
+        &self,
+        machine: &mut Machine,
+        memory: &mut [u8],
+        offset: usize,
+        budget: u32,
+    ) -> Result<Run, Refusal> {
+        run(self.file, machine, memory, offset, budget)
+    }
+
+    /// Makes one step: a [`Verified::run`] with budget 1.
+    ///
+    /// A step after which the run could go on answers [`Ending::OutOfBudget`](crate::Ending::OutOfBudget).
+    ///
+    /// # Panics
+    ///
+    /// If the library's answer is none that the C interface allows, which the proved library never gives.
+    pub fn step(
+        &self,
+        machine: &mut Machine,
+        memory: &mut [u8],
+        offset: usize,
+    ) -> Result<Run, Refusal> {
+        step(self.file, machine, memory, offset)
+    }
+}

@@ -1,0 +1,53 @@
+//! The hand-written implementation.
+
+use crate::{ending, Machine, Ran, Read, Refused, Verdict};
+use handwritten::{Ending, Module, Refusal};
+
+fn refused(refusal: Refusal) -> Refused {
+    (refusal.number, refusal.place)
+}
+
+fn number(ending: Ending) -> u32 {
+    match ending {
+        Ending::Halted => ending::HALTED,
+        Ending::Trapped => ending::TRAPPED,
+        Ending::Denied => ending::DENIED,
+        Ending::Violated => ending::VIOLATED,
+        Ending::OutOfBudget => ending::OUT_OF_BUDGET,
+    }
+}
+
+#[inline]
+pub fn read(file: &[u8]) -> Read {
+    let Module {
+        base,
+        size,
+        guard,
+        instructions,
+        targets,
+    } = handwritten::read(file).map_err(refused)?;
+    Ok([base, size, guard, instructions, targets])
+}
+
+#[inline]
+pub fn verify(file: &[u8]) -> Verdict {
+    let accepted = handwritten::verify(file).map_err(refused)?;
+    Ok([accepted.instructions, accepted.targets])
+}
+
+#[inline]
+pub fn run(
+    file: &[u8],
+    machine: &mut Machine,
+    memory: &mut [u8],
+    offset: usize,
+    budget: u32,
+) -> Ran {
+    let Machine { registers, pc } = *machine;
+    let mut lent = handwritten::Machine { registers, pc };
+    let made = handwritten::run(file, &mut lent, memory, offset, budget);
+    let handwritten::Machine { registers, pc } = lent;
+    *machine = Machine { registers, pc };
+    let run = made.map_err(refused)?;
+    Ok((number(run.ending), run.steps))
+}
