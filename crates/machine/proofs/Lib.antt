@@ -7,4 +7,3 @@ pub mod Looping
 pub mod Calling
 pub mod Lending
 pub mod Outcomes
-pub mod Joined

@@ -1,20 +1,21 @@
 -- Demand 3 for whatever a host calls: each entry's contract gives the promise of run, and each verdict that no rule is broken.
 -- Assumes nothing.
 use Prim.Native.Nat.{ℕ}
-use mathlib.Core.Path.{_≡_, sym, ap, _∙_}
-use mathlib.Core.List.{List}
+use mathlib.Core.Path.{_≡_, refl, sym, ap, _∙_}
+use mathlib.Core.List.{List, [], _∷_}
 use mathlib.Core.Option.{none}
 use Rattle.model.specs.declared.Machine.{Machine}
-use Rattle.model.specs.Judgement.{firstBroken}
+use Rattle.model.specs.File.{programIn}
+use Rattle.model.specs.Judgement.{firstBroken, concluded, judgement}
 use Rattle.model.specs.Run.{Seen, RunPost, runOn}
-use Rattle.model.specs.Walk.{Call, Called}
+use Rattle.model.specs.Walk.{Call, hostWrites, Called}
 use Rattle.model.specs.Walk as Walk
 use Rattle.safety.proofs.Safety.{safety}
 use Rattle.safety.proofs.Entries.{accepted-means}
 use Rattle.madsjirn.specs.declared.answers.RunAnswer.{RunAnswer}
 use Rattle.madsjirn.specs.declared.answers.VerdictAnswer.{VerdictAnswer}
-use Rattle.madsjirn.specs.Numbers.{reportIn, Leaves}
-use Rattle.madsjirn.specs.Entries.{LetIn, verified, verified-by-number, seenIn, EntryPost, by-value, over-lent, exported, Hosted, done, call, HostedSafety}
+use Rattle.madsjirn.specs.Numbers.{verdictNumbers, runNumbers, reportIn, Leaves}
+use Rattle.madsjirn.specs.Entries.{LetIn, verified, verified-by-number, seenIn, EntryPost, by-value, over-lent, exported, Hosted, done, call, HostedAnswers, HostedSafety}
 use Rattle.madsjirn.proofs.Decoding.{report-carried, passed-none}
 
 -- what is read back from the numbers of an exported call is the model's
@@ -47,3 +48,19 @@ hosted-safety = record {
       (record { bytes = bytes; accepted = let-in let-in-by; at-indirect = at-indirect; registers = words; written = written })
       (called hosted);
 }
+
+let-in-passed : (file : List ℕ) → firstBroken file ≡ none → LetIn file
+unfolding judgement verdictNumbers
+let-in-passed file passes = verified-by-number (verdictNumbers (judgement file)) refl (ap (λ o. verdictNumbers (concluded file o) .refusal) passes)
+
+-- each call answers the model's numbers
+answer-all : (file : List ℕ) (m : Machine) (memory : List ℕ) (calls : List Call) → (seen : List Seen) × Hosted file m memory calls seen
+answer-all file m memory [] = ([], done)
+answer-all file m memory (c ∷ cs) =
+    let s : Seen = runOn file m (hostWrites (programIn file) memory c) (c .offset) (c .budget) in
+    let left : Leaves s (runNumbers (s .report)) (s .machine) (s .memory) = record { numbers = refl; machine-is = refl; memory-is = refl } in
+    let rest = answer-all file (s .machine) (s .memory) cs in
+    (seenIn (runNumbers (s .report)) (s .machine) (s .memory) ∷ rest .0, call (exported _ _ _ left) (rest .1))
+
+pub hosted-answers : HostedAnswers
+hosted-answers = record { let-in = let-in-passed; answers = answer-all }

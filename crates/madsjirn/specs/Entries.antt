@@ -4,6 +4,7 @@ use Prim.Native.Nat.{ℕ, _<_}
 use mathlib.Core.Path.{_≡_}
 use mathlib.Core.Bool.{true}
 use mathlib.Core.List.{List, [], _∷_, List·Memᴰ}
+use mathlib.Core.Option.{none}
 use Rattle.model.specs.declared.Answer.{Answer}
 use Rattle.model.specs.declared.Machine.{Machine}
 use Rattle.model.specs.declared.Outcome.{Outcome}
@@ -12,14 +13,15 @@ use Rattle.model.specs.declared.Verdict.the-variants.{Accepted}
 use Rattle.model.specs.Answers.{judgementOf}
 use Rattle.model.specs.Program.{isIndirect}
 use Rattle.model.specs.File.{byteAt, programIn}
-use Rattle.model.specs.Judgement.{judgement}
+use Rattle.model.specs.Judgement.{firstBroken, judgement}
 use Rattle.model.specs.Run.{Seen, RunPost, runOn}
 use Rattle.model.specs.Walk.{Call, hostWrites}
 use Rattle.model.specs.Safety.{EightWords, Bytes, Safe}
+use Rattle.reader.specs.Readings.{reading}
 use Rattle.machine.specs.Core.{seenOf}
 use Rattle.madsjirn.specs.declared.answers.RunAnswer.{RunAnswer}
 use Rattle.madsjirn.specs.declared.answers.VerdictAnswer.{VerdictAnswer}
-use Rattle.madsjirn.specs.Numbers.{verdictNumbers, reportIn, Leaves}
+use Rattle.madsjirn.specs.Numbers.{moduleNumbers, verdictNumbers, runNumbers, readingIn, judgementIn, reportIn, Leaves}
 
 -- a verdict that lets a module in: what `verifier::verify::verify` ensures of an answer that is accepted, or `madsjirn_verify` of one
 -- whose refusal is 0
@@ -49,6 +51,19 @@ pub data Hosted (file : List ℕ) : Machine → List ℕ → List Call → List 
       → Hosted file (s .machine) (s .memory) cs ss
       → Hosted file m memory (c ∷ cs) (s ∷ ss)
 
+-- a module that keeps every rule is let in; and whatever is called, there is something that the exported entries answered and left
+pub record HostedAnswers : Type 0 where
+  pub let-in : (file : List ℕ) → firstBroken file ≡ none → LetIn file
+  pub answers : (file : List ℕ) (m : Machine) (memory : List ℕ) (calls : List Call) → (seen : List Seen) × Hosted file m memory calls seen
+
+-- The numbers lose nothing: of every file and every call the model's answer is read back from the numbers that a host gets.
+pub record NumbersCarried : Type 0 where
+  pub verdict : (file : List ℕ) → judgementIn (verdictNumbers (judgement file)) ≡ judgement file
+  pub layout : (file : List ℕ) → readingIn (moduleNumbers (reading file)) ≡ reading file
+  pub call : (file : List ℕ) (m : Machine) (memory : List ℕ) (offset budget : ℕ)
+      → reportIn (runNumbers (runOn file m memory offset budget .report)) ≡ runOn file m memory offset budget .report
+
+-- Demand 3.
 pub record HostedSafety : Type 0 where
   pub safe : (file : List ℕ) (m : Machine) (memory : List ℕ) (calls : List Call) (seen : List Seen)
       → LetIn file

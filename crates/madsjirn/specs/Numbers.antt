@@ -53,7 +53,7 @@ pub record Leaves (seen : Seen) (answer : RunAnswer) (machine : Machine) (memory
   pub machine-is : machine ≡ seen .machine
   pub memory-is : memory ≡ seen .memory
 
--- ---- from numbers (proofs/Decoding shows that nothing is lost)
+-- ---- from numbers (`NumbersCarried` in Entries says that nothing is lost)
 
 unfoldable pub readingIn : ModuleAnswer → ReadReport
 readingIn a =

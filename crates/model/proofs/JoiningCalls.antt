@@ -13,7 +13,7 @@ use Rattle.model.specs.Obligations.{Fault, firstFault}
 use Rattle.model.specs.Answers.{ended}
 use Rattle.model.specs.File.{layoutIn, programIn}
 use Rattle.model.specs.Rules.{Runnable}
-use Rattle.model.specs.Run.{Run, run, steps, stretch, splice, Seen, finished, runnable, unlessRefused, runOn, seenAfter}
+use Rattle.model.specs.Run.{Run, run, steps, stretch, splice, Seen, finished, runnable, unlessRefused, runOn, RunPost, seenAfter}
 use Rattle.model.proofs.Memory.{stretch-length, splice-length, stretch-splice, splice-splice}
 use Rattle.model.proofs.Accepted.{runnable-iff}
 use Rattle.model.proofs.Steady.{RunSteady}
@@ -113,3 +113,15 @@ joining-calls file m memory offset first more made reported =
     (one-call file m memory offset first asked more out
     ∙ ap (seenAfter (steps (runOf file m memory offset first)))
     (sym (second-call file m memory offset first asked more)))
+
+-- and so of whatever three calls answered and left, by the promise of each
+pub runs-join : (file : List ℕ) (m : Machine) (memory : List ℕ) (offset first more made : ℕ) (before after one : Seen)
+    → RunPost file m memory offset first before → before .report ≡ ended OutOfBudget made
+    → RunPost file (before .machine) (before .memory) offset more after
+    → RunPost file m memory offset (first + more) one
+    → one ≡ seenAfter made after
+runs-join file m memory offset first more made before after one was spent then both =
+    both .is
+    ∙ joining-calls file m memory offset first more made (ap (λ (s : Seen). s .report) (sym (was .is)) ∙ spent)
+    ∙ ap (λ (s : Seen). seenAfter made (runOn file (s .machine) (s .memory) offset more)) (sym (was .is))
+    ∙ ap (seenAfter made) (sym (then .is))

@@ -16,7 +16,7 @@ use Rattle.model.specs.Program.{Program, isTarget, isIndirect}
 use Rattle.model.specs.Step.{Effect, goesOn, goesTo, goesVia, ends, inRegion, inZones, Step, settle, stepOf, step}
 use Rattle.model.specs.File.{mostInstructions, mostTargets, programIn}
 use Rattle.model.specs.Rules.{SomeOf}
-use Rattle.model.specs.Run.{Seen, runOn}
+use Rattle.model.specs.Run.{Seen, RunPost, runOn}
 use Rattle.model.specs.Walk.{Call, hostWrites, Called, done, call}
 use Rattle.model.specs.Safety.{InZones}
 use Rattle.model.specs.Outcomes as Outcomes
@@ -26,7 +26,7 @@ use Rattle.model.proofs.Tests.{by-cond}
 use Rattle.model.proofs.Reflection.{Reflects, le-reflects, and-reflects}
 use Rattle.model.proofs.Accepted.{accepted-iff, runnable-iff, refusal-first, run-refusal-first}
 use Rattle.model.proofs.Targets.{code-length, readable-steady}
-use Rattle.model.proofs.JoiningCalls.{joining-calls}
+use Rattle.model.proofs.JoiningCalls.{joining-calls, runs-join}
 use Rattle.model.proofs.LongFiles.{long-file}
 use Rattle.model.proofs.Rows.{agrees, every, all-agree}
 
@@ -85,11 +85,11 @@ steps-steady = record {
 }
 
 pub calls-join : CallsJoin
-calls-join = record { join = joining-calls }
+calls-join = record { join = joining-calls; runs = runs-join }
 
 pub known-outcomes : KnownOutcomes
 unfolding Outcomes.table Outcomes.numbers every agrees
-known-outcomes = record { agree = all-agree Outcomes.table refl; complete = refl }
+known-outcomes = record { compares = λ n given expected same. same; agree = all-agree Outcomes.table refl; complete = refl }
 
 -- ---- demand 3's terms
 
@@ -122,7 +122,8 @@ answer-all file m memory [] = ([], done)
 answer-all file m memory (c ∷ cs) =
     let s : Seen = runOn file m (hostWrites (programIn file) memory c) (c .offset) (c .budget) in
     let rest = answer-all file (s .machine) (s .memory) cs in
-    (s ∷ rest .0, call (record { is = refl }) (rest .1))
+    let met : RunPost file m (hostWrites (programIn file) memory c) (c .offset) (c .budget) s = record { is = refl } in
+    (s ∷ rest .0, call met (rest .1))
 
 pub calls-answer : CallsAnswer
 calls-answer = record { answers = answer-all }

@@ -143,7 +143,10 @@ shift-high : (x w : ℕ) → 0x8000_0000 ≤ x → arithmeticShift x w ≡ modul
 unfolding arithmeticShift signed wrap
 shift-high x w h =
     rw (le-ltb x 0x8000_0000 h)
-    (ap (λ (n : ℕ). modulus - suc n) (mod-eq-of-lt (omega (arith, shr-le (modulus - suc x) w))))
+    (ap (λ (n : ℕ). modulus - suc n) shifted-small)
+  where
+    shifted-small : (modulus - suc x) / 2 ^ w % modulus ≡ (modulus - suc x) / 2 ^ w
+    shifted-small = mod-eq-of-lt (omega (arith, shr-le (modulus - suc x) w))
 
 shift-mono-low : (x y w : ℕ) → x ≤ y → y < 0x8000_0000 → arithmeticShift x w ≤ arithmeticShift y w
 shift-mono-low x y w x≤y h = rw (shift-low x w (omega arith), shift-low y w h) (shr-mono w x≤y)

@@ -65,7 +65,9 @@ pub record TwoSafe (p : Program) (m : Machine) (start : List ℕ) (c d : Call) (
       → getD (splice (d .offset) (p .layout .size) (s .memory) (x .region)) at 0 ≡ getD (s .memory) at 0
   pub first-memory : (at : ℕ) → Outside p start c at → getD (s .memory) at 0 ≡ getD start at 0
   pub second-memory : (at : ℕ) → Outside p start d at → getD (t .memory) at 0 ≡ getD (s .memory) at 0
-  -- "what lay in no run's region is as at the start"
+  -- "what lay in no run's region is as at the start": at the end of each step of the second call, and of the call
+  pub untouched-steps : (x : Step) → List·Memᴰ x (v .log) → (at : ℕ) → Outside p start c at → Outside p start d at
+      → getD (splice (d .offset) (p .layout .size) (s .memory) (x .region)) at 0 ≡ getD start at 0
   pub untouched : (at : ℕ) → Outside p start c at → Outside p start d at → getD (t .memory) at 0 ≡ getD start at 0
   pub lengths : (length (s .memory) ≡ length start) × (length (t .memory) ≡ length start)
 

@@ -1,7 +1,7 @@
 -- The definitions: what an auditor reads, and all that need be believed. Each stands under the sentence of document 01 (the scope
 -- document) or of the demands that it says; text in quotation marks is theirs, word for word.
 --
--- Reading order, along document 01: Words (bytes, words, wrapping, the signed reading); Ranges (rule W, cuts, rule B); Program;
+-- Reading order, each file after those that it stands on: Words (bytes, words, wrapping, the signed reading); Ranges (rule W, cuts, rule B); Program;
 -- Instructions (the table, both columns, one row an opcode; rule N); Step (access, places, the listed step); File (fields, layout,
 -- instructions, targets, refusals 1 to 7); Obligations (what is judged, and "the first rule broken and where"); Judgement (rules 8 to
 -- 13 and the verdict); Rules (every rule again, stated by itself, with no order and no test in it); Answers (numbers of refusals and

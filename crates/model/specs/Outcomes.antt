@@ -4,7 +4,7 @@ use Prim.Native.Nat.{ℕ, _+_, _-_}
 use mathlib.Core.Bool.{true}
 use mathlib.Core.List.{List, [], _∷_, _++_}
 use mathlib.Core.Option.{Option, none, some}
-use lib.IntN.{ℤ, pos, negsuc, _+ℤ_}
+use lib.IntN.{ℤ, pos, negsuc, sucℤ, predℤ}
 use lib.ListN.{getD, replicate}
 use Rattle.model.specs.declared.Ending.{Ending}
 use Rattle.model.specs.declared.Instruction.{Instruction}
@@ -112,10 +112,10 @@ accessed imm = faultTold (firstFault (verified (through imm)))
 
 -- at a displacement, and at the next one above or below
 abbrev pub andAbove : ℤ → List ℕ
-andAbove imm = accessed imm ++ accessed (imm +ℤ pos 1)
+andAbove imm = accessed imm ++ accessed (sucℤ imm)
 
 abbrev pub andBelow : ℤ → List ℕ
-andBelow imm = accessed imm ++ accessed (imm +ℤ negsuc 0)
+andBelow imm = accessed imm ++ accessed (predℤ imm)
 
 abbrev pub load : Width → Instruction
 load w = Load 0 1 w (pos 0)

@@ -18,11 +18,11 @@ use Rattle.model.specs.Step.{inRegion, inZones, step}
 use Rattle.model.specs.File.{codeIn, instructionCount, programIn}
 use Rattle.model.specs.Judgement.{obligations, firstBroken, judgement}
 use Rattle.model.specs.Rules.{FileKept, KeepsEveryRule, Runnable}
-use Rattle.model.specs.Run.{Seen, run, runnable, runOn, seenAfter}
+use Rattle.model.specs.Run.{Seen, run, runnable, runOn, RunPost, seenAfter}
 use Rattle.model.specs.Walk.{Call, walk, seenIn, Called}
 use Rattle.model.specs.Safety.{Fed, InZones, InRegionOf}
 use Rattle.model.specs.Outcomes as Outcomes
-use Rattle.model.specs.Outcomes.{Row, numbers}
+use Rattle.model.specs.Outcomes.{Row, row, numbers}
 use Rattle.model.specs.Loop.{loopWith, loop, start, zeros, calling}
 use Rattle.model.specs.Walks as Walks
 use Rattle.model.specs.Line.{digit, decimal, lineOf}
@@ -82,9 +82,18 @@ pub record CallsJoin : Type 0 where
       → runOn file m memory offset (first + more)
       ≡ seenAfter made
       (runOn file (runOn file m memory offset first .machine) (runOn file m memory offset first .memory) offset more)
+  -- and so of whatever three calls answered and left, each being anything that the promise of run allows: one with the first budget,
+  -- one that goes on from what it left, and one with both budgets
+  pub runs : (file : List ℕ) (m : Machine) (memory : List ℕ) (offset first more made : ℕ) (before after one : Seen)
+      → RunPost file m memory offset first before → before .report ≡ ended OutOfBudget made
+      → RunPost file (before .machine) (before .memory) offset more after
+      → RunPost file m memory offset (first + more) one
+      → one ≡ seenAfter made after
 
 -- "P1 to P12 are proved as one table by one claim about the definitions.": in every row they give what document 01 says
 pub record KnownOutcomes : Type 0 where
+  -- a row compares what it was given
+  pub compares : (n : ℕ) (given expected : List ℕ) → row n given expected .given ≡ row n given expected .expected → given ≡ expected
   pub agree : (r : Row) → List·Memᴰ r Outcomes.table → r .given ≡ r .expected
   pub complete : numbers Outcomes.table
       ≡ 1 ∷ 2 ∷ 3 ∷ 4 ∷ 5 ∷ 6 ∷ 6 ∷ 7 ∷ 8 ∷ 8 ∷ 9 ∷ 10 ∷ 11 ∷ 12 ∷ []

@@ -1,8 +1,8 @@
 -- Demand 3 for two calls, clause by clause: each from the theorem on lists. Assumes nothing.
 use Prim.Native.Nat.{ℕ, _+_}
-use mathlib.Core.Path.{_≡_, refl, sym, ap, _∙_}
+use mathlib.Core.Path.{_≡_, refl, sym, ap, _∙_, subst}
 use mathlib.Core.Logic.{inl, inr, ⊎-elim}
-use mathlib.Core.List.{List, [], _∷_, _++_, List·Memᴰ, List·Memᴰ·head, List·Memᴰ·tail, List·Memᴰ·append-cases}
+use mathlib.Core.List.{List, [], _∷_, _++_, List·Memᴰ, List·Memᴰ·head, List·Memᴰ·tail, List·Memᴰ·append-cases, List·Memᴰ·cases-cons, List·Memᴰ·eq-of-singleton}
 use native.Mathlib.Omega.{arith}
 use lib.Dec.{leb}
 use lib.ListN.{length, getD, length-append}
@@ -96,6 +96,15 @@ module _ (file : List ℕ) (m : Machine) (start : List ℕ) (c d : Call) (s t : 
   second-memory-is : t .memory ≡ v .seen .memory
   second-memory-is = ap (λ (x : Seen). x .memory) second-answer
 
+  -- an offset in neither call's region lies in no call's
+  beside : (at : ℕ) → Outside p start c at → Outside p start d at → (e : Call) → List·Memᴰ e (c ∷ d ∷ []) → InRegionOf p (length start) e at → ⊥
+  beside at of-c of-d e among =
+      ⊎-elim (λ is. subst Apart (sym is) (apart c at of-c)) (λ later. subst Apart (sym (List·Memᴰ·eq-of-singleton later)) (apart d at of-d))
+      (List·Memᴰ·cases-cons among)
+    where
+      Apart : Call → Type 0
+      Apart x = InRegionOf p (length start) x at → ⊥
+
   two-safe : TwoSafe p m start c d s t w v
   two-safe = record {
     first-answer = first-answer;
@@ -113,9 +122,11 @@ module _ (file : List ℕ) (m : Machine) (start : List ℕ) (c d : Call) (s t : 
     second-steps = own-step v d (s .memory) second-call second-before second-safe;
     first-memory = own-memory w c start (call-is p m start c) (before-is p m start c) first-safe (s .memory) (inr first-memory-is);
     second-memory = own-memory v d (s .memory) second-call second-before second-safe (t .memory) (inr second-memory-is);
+    untouched-steps = λ x logged at beside-c beside-d.
+        second-safe .others (splice (d .offset) (p .layout .size) (s .memory) (x .region)) (inl (x, logged, rw (second-call, second-before))) at
+        (beside at beside-c beside-d);
     untouched = λ at beside-c beside-d.
-        own-memory v d (s .memory) second-call second-before second-safe (t .memory) (inr second-memory-is) at beside-d
-        ∙ own-memory w c start (call-is p m start c) (before-is p m start c) first-safe (s .memory) (inr first-memory-is) at beside-c;
+        second-safe .others (t .memory) (inr second-memory-is) at (beside at beside-c beside-d);
     lengths = (first-safe .length-kept (s .memory) (inr first-memory-is), second-safe .length-kept (t .memory) (inr second-memory-is));
   }
 
