@@ -66,19 +66,19 @@ fn group(words: &[u8], which: u32, rows: usize) {
 }
 
 pub(crate) fn groups() {
-    group(b"rule B", RULE_B, 29);
+    group(b"rule B", RULE_B, 31);
     group(b"rule N and loads", RULE_N, 20);
     group(b"accesses at the guard's edges", ACCESSES, 16);
     group(b"rule W", RULE_W, 21);
     group(b"set, copy, andi and guard", MOVES, 15);
     group(b"shifts", SHIFTS, 12);
     group(b"the order of 8 to 13", ORDERS, 18);
-    group(b"checks and places of jumps", JUMPS, 15);
+    group(b"checks and places of jumps", JUMPS, 16);
     group(b"the order of 4 to 7", SPOILED, 9);
     group(b"layouts", LAYOUTS, 20);
     group(b"limits of 4096 and 256", COUNTS, 9);
     group(b"room for the region", ROOMS, 6);
-    group(b"accesses that are done", DONE, 12);
+    group(b"accesses that are done", DONE, 13);
     group(b"accesses that end the run", ENDS, 14);
     group(b"jumps, tests and values", OTHERS, 26);
 }

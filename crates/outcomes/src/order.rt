@@ -112,9 +112,10 @@ const ORDERS: [[u32; 7]; 18] = [
     [3, 0, PASS, CHECK_7, JUMPR_7, 0, 0],
 ];
 
-const JUMPS: [[u32; 7]; 15] = [
+const JUMPS: [[u32; 7]; 16] = [
     [3, 0, SET_5, CHECK_1, JUMPR_1, 0, 0],
     [4, 3, SET_5, CHECK_1, JUMPR_1, 0, 0],
+    [3, 2, CHECK_1, JUMPR_1, HALT, 0, 0],
     [3, 2, SET_5, CHECK_1, JUMPR_1, 9, 2],
     [3, 0, SET_5, CHECK_2, JUMPR_1, 9, 2],
     [3, 0, CHECK_1, ADD_0, JUMPR_1, 9, 2],
@@ -164,7 +165,7 @@ pub(crate) fn orders(score: &mut [u32; 4], i: usize) {
 }
 
 pub(crate) fn jumps(score: &mut [u32; 4], i: usize) {
-    let row = JUMPS[i % 15];
+    let row = JUMPS[i % 16];
     order_row(score, &row);
 }
 

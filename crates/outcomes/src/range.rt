@@ -23,7 +23,7 @@ const HALF: u32 = 2147483648;
 // Each row: op, a, b, w, imm, then the lowest and highest of r1 and of r2 before, and those after. A branch to 3 is
 // looked at where it is taken, a branch to 0 where it is not.
 // Equal, below and signed below; both registers the same.
-const RULE_B: [[u32; 13]; 29] = [
+const RULE_B: [[u32; 13]; 31] = [
     [BRANCH, 1, 2, 0, 3, 0, 100, 50, 150, 50, 100, 50, 100],
     [BRANCH, 1, 2, 0, 3, 50, 150, 0, 100, 50, 100, 50, 100],
     [BRANCH, 1, 2, 0, 3, 10, 20, 0, 100, 10, 20, 10, 20],
@@ -40,6 +40,22 @@ const RULE_B: [[u32; 13]; 29] = [
     [BRANCH, 1, 2, 1, 3, 10, 20, 5, 5, 10, 20, 5, 5],
     [BRANCH, 1, 2, 1, 3, 0, 100, 0, 0, 0, 100, 0, 0],
     [BRANCH, 1, 2, 1, 3, MOST, MOST, 0, MOST, MOST, MOST, 0, MOST],
+    [BRANCH, 1, 2, 1, 3, 0, 100, 0, 1, 0, 0, 1, 1],
+    [
+        BRANCH,
+        1,
+        2,
+        1,
+        3,
+        MOST - 1,
+        MOST,
+        0,
+        MOST,
+        MOST - 1,
+        MOST - 1,
+        MOST,
+        MOST,
+    ],
     [BRANCH, 1, 2, 1, 3, 5, 10, 0, MOST, 5, 10, 6, MOST],
     [BRANCH, 1, 2, 1, 0, 0, MOST, 10, 20, 10, MOST, 10, 20],
     [BRANCH, 1, 2, 1, 0, 0, 100, 10, 10, 10, 100, 10, 10],
@@ -383,7 +399,7 @@ const ACCESSES: [[u32; 5]; 16] = [
 ];
 
 pub(crate) fn rule_b(score: &mut [u32; 4], i: usize) {
-    let row = RULE_B[i % 29];
+    let row = RULE_B[i % 31];
     range_row(score, &row);
 }
 

@@ -33,7 +33,7 @@ const STRAYED: u32 = 3;
 
 const SPENT: u32 = 4;
 
-// What r2 holds where a load or store goes by r1.
+// What r2 holds before a load, and before most stores.
 const HELD: u32 = 2762187425;
 
 // The region's first word, and where it is in memory; the last is at LAST and holds the bytes 5, 6, 7, 8.
@@ -102,7 +102,7 @@ fn access(op: u32, w: u32) -> Ins {
 }
 
 // Accesses that are done. Each row: op, w, the address, r2 after it, and a word of memory after it with its place.
-const DONE: [[u32; 6]; 12] = [
+const DONE: [[u32; 6]; 13] = [
     [LOAD, 1, DL, 8, FIRST, ONE_TO_FOUR],
     [LOAD, 2, DL - 1, 2055, FIRST, ONE_TO_FOUR],
     [LOAD, 4, DL - 3, FIVE_TO_EIGHT, FIRST, ONE_TO_FOUR],
@@ -115,10 +115,11 @@ const DONE: [[u32; 6]; 12] = [
     [STORE, 1, DB, HELD, FIRST, 67306145],
     [STORE, 2, DB, HELD, FIRST, 67347105],
     [STORE, 4, DB, HELD, FIRST, HELD],
+    [STORE, 4, DB, 16777216, FIRST, 16777216],
 ];
 
 pub(crate) fn done(score: &mut [u32; 4], i: usize) {
-    let row = DONE[i % 12];
+    let row = DONE[i % 13];
     let after = After {
         code: SPENT,
         place: 1,
@@ -127,7 +128,8 @@ pub(crate) fn done(score: &mut [u32; 4], i: usize) {
         at: row[4],
         word: row[5],
     };
-    step(score, access(row[0], row[1]), row[2], HELD, after);
+    let held = if row[0] == STORE { row[3] } else { HELD };
+    step(score, access(row[0], row[1]), row[2], held, after);
 }
 
 // Accesses that end the run, into the guard and beyond it: the first byte at the lower edges, the last at the upper
