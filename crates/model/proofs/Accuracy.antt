@@ -1,6 +1,6 @@
--- Ranges are accurate: where the registers lie within what is known before an instruction, they lie within what is known along
--- the edge that it takes, and it strays only by an access that rule 10 does not allow. Assumes nothing.
-use Prim.Native.Nat.{ℕ, _-_}
+-- The ranges are accurate (`RangesAccurate`), and an instruction strays only by an access that rule 10 does not allow.
+-- Assumes nothing.
+use Prim.Native.Nat.{ℕ, _-_, _<_}
 use mathlib.Core.Path.{_≡_, refl, sym, _∙_, subst}
 use mathlib.Core.Bool.{Bool, true, false, cond}
 use mathlib.Core.List.{List}
@@ -13,16 +13,19 @@ use Rattle.model.specs.declared.Target.{Target}
 use Rattle.model.specs.Words.{readBytes}
 use Rattle.model.specs.Ranges.{regionRange}
 use Rattle.model.specs.Program.{isIndirect}
-use Rattle.model.specs.Instructions.{bytesOf, loadRange, holds, reg, Access, Shape, stops, assigns, loads, stores, jumps, branches, checks, jumpsVia, traits, afterNext, afterTaken}
-use Rattle.model.specs.Step.{address, inRegion, inZones, Effect, goesOn, goesTo, goesVia, ends, accessing, effect}
-use Rattle.model.specs.Rules.{LayoutKept, Allowed}
+use Rattle.model.specs.Instructions.{bytesOf, loadRange, holds, reg, Access, Shape, stops, assigns, loads, stores, jumps, branches, checks, jumpsVia, traits, ruleN, afterNext, afterTaken}
+use Rattle.model.specs.Step.{address, inRegion, inZones, Effect, goesOn, goesTo, goesVia, ends, accessing, effect, shapeAt}
+use Rattle.model.specs.File.{byteAt, codeStart, codeIn, targetsIn, programOf, programIn}
+use Rattle.model.specs.Rules.{LayoutKept, FileKept, Allowed}
 use Rattle.model.specs.Safety.{EightWords, Bytes}
+use Rattle.model.specs.Accuracy.{Within, AccessAllowed, RangesAccurate}
 use Rattle.model.proofs.Tests.{by-cond}
-use Rattle.model.proofs.Registers.{Within, within-put, words-set, bytes-write}
+use Rattle.model.proofs.Registers.{within-put, words-set, bytes-write}
 use Rattle.model.proofs.Values.{Fits, loaded-fits}
 use Rattle.model.proofs.Containment.{contained-in-zones, inZones-passes}
 use Rattle.model.proofs.Cuts.{within-ruleN, within-ruleB}
-use Rattle.model.proofs.Sound.{SoundAccess, Sound}
+use Rattle.model.proofs.Sound.{SoundAccess, Sound, code-sound}
+use Rattle.model.proofs.Stretches.{value-bytes}
 
 -- ---- what holds after an instruction, by its effect
 
@@ -45,10 +48,6 @@ pub record ViaAccurate (s : Shape) (rs : List ℕ) (to : ℕ) : Type 0 where
   pub by : traits s .goesBy ≡ some register
   pub held : to ≡ reg rs register
 
--- rule 10 allows its access, if any
-abbrev pub AccessAllowed : Layout → Shape → Ranges → Type 0
-AccessAllowed l s k = (ac : Access) → traits s .access ≡ some ac → Allowed l k ac
-
 abbrev violates : Ending → Bool
 violates Halted = false
 violates Trapped = false
@@ -56,9 +55,10 @@ violates Denied = false
 violates Violated = true
 violates OutOfBudget = false
 
--- what holds, by the effect: an instruction whose access is allowed does not stray
+-- what holds, by the effect: where its access is allowed, an instruction leaves the registers within what is known after it, and does
+-- not stray
 abbrev pub Accurate : Layout → List Target → Shape → Ranges → List ℕ → Effect → Type 0
-Accurate l ts s k rs (goesOn rs′ bs′) = NextAccurate l ts s k rs′ bs′
+Accurate l ts s k rs (goesOn rs′ bs′) = AccessAllowed l s k → NextAccurate l ts s k rs′ bs′
 Accurate l ts s k rs (goesTo to) = TakenAccurate s k rs to
 Accurate l ts s k rs (goesVia to) = ViaAccurate s rs to
 Accurate l ts s k rs (ends e) = AccessAllowed l s k → violates e ≡ false
@@ -92,33 +92,37 @@ module _ {l : Layout} (lk : LayoutKept l) (ts : List Target) {k : Ranges} {rs bs
       only-trapped : AccessAllowed l s k → violates (cond zones Trapped Violated) ≡ false
       only-trapped allowed = rw (passes allowed)
 
+  narrowed : (a : ℕ) (ac : Access) → SoundAccess a ac → Allowed l k ac → inRegion l (address ac rs) (bytesOf (ac .width)) ≡ true
+      → Within (ruleN (regionRange l) ac k) rs
+  narrowed a ac sound allowed done = within-ruleN w ws lk (sound .pointer) (sound .displacement) allowed done
+
   -- the ranges are accurate, whatever the effect is
   pub effect-accurate : (s : Shape) → Sound l s → Accurate l ts s k rs (effect l ts s rs bs)
   unfolding effect afterNext afterTaken
   effect-accurate stops sound = λ allowed. refl
   effect-accurate (assigns a value ranged) sound =
       let new : Fits (ranged (regionRange l) k) (value l rs) = sound .fits w ws in
-      goes-on (assigns a value ranged) _ _ refl refl
+      λ _. goes-on (assigns a value ranged) _ _ refl refl
       (within-put w ws a (sound .register) (ranged (regionRange l) k) (value l rs) (new .inside)) (words-set ws a (value l rs) (new .word)) bytes
   effect-accurate (loads a ac) sound =
       let at : ℕ = address ac rs - l .base in
       let new : Fits (loadRange (ac .width)) (readBytes (bytesOf (ac .width)) bs at) = loaded-fits (ac .width) bs at (bytes .small) in
       access-accurate (loads a ac) a ac _ sound refl
-      (λ done. goes-on (loads a ac) _ _ refl refl
-      (within-put (within-ruleN w ws l ac (sound .pointer) done) ws a (sound .register) (loadRange (ac .width)) _ (new .inside))
+      (λ done allowed. goes-on (loads a ac) _ _ refl refl
+      (within-put (narrowed a ac sound (allowed ac refl) done) ws a (sound .register) (loadRange (ac .width)) _ (new .inside))
       (words-set ws a _ (new .word)) bytes)
   effect-accurate (stores a ac) sound =
       access-accurate (stores a ac) a ac _ sound refl
-      (λ done. goes-on (stores a ac) _ _ refl refl
-      (within-ruleN w ws l ac (sound .pointer) done) ws (bytes-write (bytesOf (ac .width)) (reg rs a) (address ac rs - l .base) bytes))
+      (λ done allowed. goes-on (stores a ac) _ _ refl refl
+      (narrowed a ac sound (allowed ac refl) done) ws (bytes-write (bytesOf (ac .width)) (reg rs a) (address ac rs - l .base) bytes))
   effect-accurate (jumps to) sound = record { within = w; named = refl }
   effect-accurate (branches test a b to) sound =
       by-cond (Accurate l ts (branches test a b to) k rs) (holds test (reg rs a) (reg rs b))
       (λ t. record { within = within-ruleB w ws a b (sound .left) (sound .right) test true t; named = refl })
-      (λ f. goes-on (branches test a b to) rs bs refl refl (within-ruleB w ws a b (sound .left) (sound .right) test false f) ws bytes)
+      (λ f _. goes-on (branches test a b to) rs bs refl refl (within-ruleB w ws a b (sound .left) (sound .right) test false f) ws bytes)
   effect-accurate (checks a) sound =
       by-cond (Accurate l ts (checks a) k rs) (isIndirect ts (reg rs a))
-      (λ t. record {
+      (λ t _. record {
         within = w;
         words = ws;
         bytes = bytes;
@@ -130,9 +134,26 @@ module _ {l : Layout} (lk : LayoutKept l) (ts : List Target) {k : Ranges} {rs bs
 
   module _ (s : Shape) (sound : Sound l s) where
     -- the edge to the next index
-    pub accurate-next : {rs′ bs′ : List ℕ} → effect l ts s rs bs ≡ goesOn rs′ bs′ → NextAccurate l ts s k rs′ bs′
-    accurate-next e = subst (Accurate l ts s k rs) e (effect-accurate s sound)
+    accurate-next : {rs′ bs′ : List ℕ} → AccessAllowed l s k → effect l ts s rs bs ≡ goesOn rs′ bs′ → NextAccurate l ts s k rs′ bs′
+    accurate-next allowed e = subst (Accurate l ts s k rs) e (effect-accurate s sound) allowed
 
     -- the edge that a jump or taken branch takes
-    pub accurate-taken : {to : ℕ} → effect l ts s rs bs ≡ goesTo to → TakenAccurate s k rs to
+    accurate-taken : {to : ℕ} → effect l ts s rs bs ≡ goesTo to → TakenAccurate s k rs to
     accurate-taken e = subst (Accurate l ts s k rs) e (effect-accurate s sound)
+
+-- every instruction of a file is sound, where rules 1 to 7 are kept
+pub file-sound : (file : List ℕ) → ((i : ℕ) → byteAt file i < 256) → FileKept file → (i : ℕ)
+    → Sound (programIn file .layout) (shapeAt (programIn file) i)
+unfolding programOf
+file-sound file bytes kept = code-sound (codeIn file) (value-bytes file codeStart 2 bytes) (kept .holds .layout) (targetsIn file)
+
+pub ranges-accurate : RangesAccurate
+unfolding programOf
+ranges-accurate = record {
+  next = λ file bytes kept i k rs bs rs′ bs′ ready allowed does.
+      accurate-next (kept .holds .layout) (programIn file .targets) (ready .within) (ready .words) (ready .bytes)
+      (shapeAt (programIn file) i) (file-sound file bytes kept i) allowed does .within;
+  taken = λ file bytes kept i k rs bs to ready does.
+      accurate-taken (kept .holds .layout) (programIn file .targets) (ready .within) (ready .words) (ready .bytes)
+      (shapeAt (programIn file) i) (file-sound file bytes kept i) does .within;
+}

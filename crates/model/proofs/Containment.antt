@@ -20,8 +20,8 @@ use Rattle.model.specs.Instructions.{bytesOf, reg, Access}
 use Rattle.model.specs.Step.{address, inZones, addressesFrom}
 use Rattle.model.specs.Rules.{LayoutKept, Allowed}
 use Rattle.model.specs.Safety.{InZones}
-use Rattle.model.proofs.Registers.{Within}
-use Rattle.model.proofs.RuleW.{Raisable, raised, raised-before, raised-after, sum-raisable, Signed32, signed32-raisable}
+use Rattle.model.specs.Accuracy.{Within}
+use Rattle.model.proofs.RuleW.{Raisable, raised, raised-mono, raised-before, raised-after, sum-raisable, Signed32, signed32-raisable}
 use Rattle.model.proofs.Values.{some-size}
 
 -- an access moves a byte or more
@@ -30,11 +30,11 @@ some-bytes One = omega arith
 some-bytes Two = omega arith
 some-bytes Four = omega arith
 
-raised-mono : (a b : ℤ) → T (leZ a b) → raised a ≤ raised b
-raised-mono (pos a) (pos b) t = omega (arith, leb→le a b t)
-raised-mono (pos a) (negsuc b) t = absurd t
-raised-mono (negsuc a) (pos b) t = omega arith
-raised-mono (negsuc a) (negsuc b) t = omega (arith, leb→le b a t)
+-- and at most four
+pub few-bytes : (v : Width) → bytesOf v ≤ 4
+few-bytes One = omega arith
+few-bytes Two = omega arith
+few-bytes Four = omega arith
 
 -- a word, raised, wraps to itself
 wrap-raised : (z : ℤ) → modulus ≤ raised z → raised z < 2 * modulus → modulus + wrap z ≡ raised z
@@ -86,7 +86,7 @@ module _ {l : Layout} {k : Ranges} {rs : List ℕ} {ac : Access} (lk : LayoutKep
       )
 
   -- the exact sum is a word, so that wrapping leaves it
-  address-exact : modulus + address ac rs ≡ reg rs (ac .pointer) + raised (ac .displacement)
+  pub address-exact : modulus + address ac rs ≡ reg rs (ac .pointer) + raised (ac .displacement)
   address-exact =
       omega (arith, sum, wrap-raised exact (omega (arith, sum, sum-at-least)) (omega (arith, sum, sum-at-most, lk .above, some-size lk)))
     where

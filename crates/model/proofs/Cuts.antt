@@ -1,54 +1,101 @@
--- Rules N and B: what they cut away, the registers do not hold. Assumes nothing.
-use Prim.Native.Nat.{ℕ, zero, suc, _+_, _≤_, _<_}
+-- Rules N and B: what they cut away, the registers do not hold; and what rule N cuts to. Assumes nothing.
+use Prim.Native.Nat.{ℕ, _+_, _-_, _≤_, _<_}
 use mathlib.Core.Path.{_≡_}
-use mathlib.Core.Bool.{Bool, true, false, false≢true}
+use mathlib.Core.Logic.{_↔_, Iff·trans}
+use mathlib.Core.Bool.{Bool, true, false}
 use mathlib.Core.List.{List}
 use native.Mathlib.Omega.{arith}
 use lib.Dec.{leb, eqb}
-use lib.IntN.{ℤ, pos, negsuc, _+ℤ_}
+use lib.IntN.{ℤ, pos, negsuc, _+ℤ_, _-ℤ_, subℕ}
+use lib.Signed.{_≤ℤ_, leZ-yes}
 use borrow.Author.Tests.{ltb-true, ltb-false, leb-true, eqb-true}
 use Rattle.model.specs.declared.Layout.{Layout}
+use Rattle.model.specs.declared.Range.{Range}
 use Rattle.model.specs.declared.Ranges.{Ranges}
 use Rattle.model.specs.declared.Test.{Test}
 use Rattle.model.specs.declared.Test.the-variants.{Equal, Below, SignedBelow}
-use Rattle.model.specs.Words.{modulus, wrap}
-use Rattle.model.specs.Ranges.{rangeOf, regionRange, cutFor, ruleB}
-use Rattle.model.specs.Instructions.{bytesOf, holds, reg, Access, isZero, ruleN}
+use Rattle.model.specs.declared.Width.{Width}
+use Rattle.model.specs.Words.{modulus}
+use Rattle.model.specs.Ranges.{rangeOf, regionRange, between, cutFor, ruleB}
+use Rattle.model.specs.Instructions.{bytesOf, holds, reg, Access, pointersInto, ruleN}
 use Rattle.model.specs.Step.{address, inRegion}
+use Rattle.model.specs.Rules.{LayoutKept, Allowed}
 use Rattle.model.specs.Safety.{EightWords}
+use Rattle.model.specs.Accuracy.{Within, PointersExact}
 use Rattle.model.proofs.Tests.{by-cond, and-left, and-right}
-use Rattle.model.proofs.Registers.{In, InBoth, Within, within-narrow, in-cut, in-cutBoth}
-use Rattle.model.proofs.Containment.{some-bytes}
+use Rattle.model.proofs.Registers.{In, InBoth, within-narrow, in-cut, in-cutBoth}
+use Rattle.model.proofs.RuleW.{raised, raised-mono, raised-tells, raised-difference, raised-before, raised-less, Signed32, signed32-raisable, signed32-raised}
+use Rattle.model.proofs.Containment.{some-bytes, few-bytes, address-exact}
 
-address-of-zero : (x : ℕ) (z : ℤ) → x < modulus → isZero z ≡ true → wrap (pos x +ℤ z) ≡ x
-unfolding wrap
-address-of-zero x (pos zero) x-word e = omega arith
-address-of-zero x (pos (suc n)) x-word e = absurd (false≢true e)
-address-of-zero x (negsuc n) x-word e = absurd (false≢true e)
+-- what lies from one whole number to another
+between-raised : (first last : ℤ) (x : ℕ) → In (between first last) x ↔ ((raised first ≤ modulus + x) × (modulus + x ≤ raised last))
+unfolding between
+between-raised (pos n) (pos m) x = (λ i. omega (arith, i), λ h. omega (arith, h))
+between-raised (negsuc n) (pos m) x = (λ i. omega (arith, i), λ h. omega (arith, h))
+between-raised first (negsuc m) x = (λ i. absurd (omega (arith, i)), λ h. absurd (omega (arith, h)))
+
+-- the pointers of rule N, by their exact sums with the displacement, raised
+module _ (region : Range) (w : Width) (imm : ℤ) (x : ℕ) (s : Signed32 imm) where
+  abbrev last : ℤ
+  last = subℕ (region .high) (bytesOf w - 1)
+
+  last-near : modulus ≤ raised last + 3
+  last-near = omega (arith, raised-difference (region .high) (bytesOf w - 1), few-bytes w)
+
+  pub pointers-raised : In (pointersInto region w imm) x ↔ ((modulus + region .low ≤ x + raised imm) × (x + raised imm ≤ raised last))
+  pointers-raised =
+      let lowest = raised-less (pos (region .low)) imm (omega arith) s in
+      let highest = raised-less last imm (omega (arith, last-near)) s in
+      Iff·trans (between-raised (pos (region .low) -ℤ imm) (last -ℤ imm) x) (
+        λ h. (omega (arith, lowest, h .0), omega (arith, highest, h .1)),
+        λ h. (omega (arith, lowest, h .0), omega (arith, highest, h .1)),
+      )
+
+  sum-raised : raised (pos x +ℤ imm) ≡ x + raised imm
+  sum-raised = raised-before x imm (signed32-raisable imm s)
+
+  pointers-exactly : In (pointersInto region w imm) x ↔ ((pos (region .low) ≤ℤ (pos x +ℤ imm)) × ((pos x +ℤ imm) ≤ℤ last))
+  pointers-exactly =
+      let some = signed32-raised imm s .0 in
+      Iff·trans pointers-raised (
+        λ h. (
+          leZ-yes (raised-tells (pos (region .low)) (pos x +ℤ imm) (omega (arith, sum-raised, some)) (omega (arith, sum-raised, h .0))),
+          leZ-yes (raised-tells (pos x +ℤ imm) last (omega (arith, last-near)) (omega (arith, sum-raised, h .1))),
+        ),
+        λ h. (
+          omega (arith, sum-raised, raised-mono (pos (region .low)) (pos x +ℤ imm) (h .0 .le)),
+          omega (arith, sum-raised, raised-mono (pos x +ℤ imm) last (h .1 .le)),
+        ),
+      )
+
+pub pointers-exact : PointersExact
+pointers-exact = record { exact = pointers-exactly }
 
 module _ {k : Ranges} {rs : List ℕ} (w : Within k rs) (ws : EightWords rs) where
-  -- rule N, after an access that was done
-  pub within-ruleN : (l : Layout) (ac : Access) → ac .pointer < 8 → inRegion l (address ac rs) (bytesOf (ac .width)) ≡ true
-      → Within (ruleN (regionRange l) ac k) rs
+  -- rule N, after an access that was done and keeps 10
+  pub within-ruleN : {l : Layout} {ac : Access} → LayoutKept l → ac .pointer < 8 → Signed32 (ac .displacement) → Allowed l k ac
+      → inRegion l (address ac rs) (bytesOf (ac .width)) ≡ true → Within (ruleN (regionRange l) ac k) rs
   unfolding ruleN inRegion
-  within-ruleN l ac p8 done =
-      by-cond (λ (k′ : Ranges). Within k′ rs) (isZero (ac .displacement))
-      (λ e. within-narrow w ws (ac .pointer) p8 _ (in-cut (w .low (ac .pointer) p8, w .high (ac .pointer) p8) (pointer-in-region e)))
-      (λ _. w)
+  within-ruleN {l} {ac} lk p8 s allowed done =
+      within-narrow w ws (ac .pointer) p8 _
+      (in-cut (w .low (ac .pointer) p8, w .high (ac .pointer) p8)
+      (pointers-raised (regionRange l) (ac .width) (ac .displacement) (reg rs (ac .pointer)) s .1 in-region))
     where
-      last : ℕ
-      last = address ac rs + bytesOf (ac .width)
+      end : ℕ
+      end = address ac rs + bytesOf (ac .width)
 
       above : l .base ≤ address ac rs
-      above = leb-true _ _ (and-left (leb (l .base) (address ac rs)) (leb last (l .base + l .size)) done)
+      above = leb-true _ _ (and-left (leb (l .base) (address ac rs)) (leb end (l .base + l .size)) done)
 
-      below : last ≤ l .base + l .size
-      below = leb-true _ _ (and-right (leb (l .base) (address ac rs)) (leb last (l .base + l .size)) done)
+      below : end ≤ l .base + l .size
+      below = leb-true _ _ (and-right (leb (l .base) (address ac rs)) (leb end (l .base + l .size)) done)
 
-      pointer-in-region : isZero (ac .displacement) ≡ true → In (regionRange l) (reg rs (ac .pointer))
-      pointer-in-region e =
-          let same : address ac rs ≡ reg rs (ac .pointer) = address-of-zero (reg rs (ac .pointer)) (ac .displacement) (ws .small (ac .pointer)) e in
-          omega (arith, above, below, some-bytes (ac .width))
+      in-region : (modulus + l .base ≤ reg rs (ac .pointer) + raised (ac .displacement))
+          × (reg rs (ac .pointer) + raised (ac .displacement) ≤ raised (subℕ (l .base + l .size - 1) (bytesOf (ac .width) - 1)))
+      in-region =
+          let exact = address-exact lk w p8 s allowed in
+          let difference = raised-difference (l .base + l .size - 1) (bytesOf (ac .width) - 1) in
+          (omega (arith, exact, above), omega (arith, exact, difference, below, some-bytes (ac .width)))
 
   module _ (a b : ℕ) (a8 : a < 8) (b8 : b < 8) where
     held-a : In (rangeOf k a) (reg rs a)

@@ -21,7 +21,7 @@ use Rattle.model.specs.Walk.{Call, hostWrites, Called, done, call}
 use Rattle.model.specs.Safety.{InZones}
 use Rattle.model.specs.Outcomes as Outcomes
 use Rattle.model.specs.Walks as Walks
-use Rattle.model.specs.Promises.{AcceptedIff, RunIff, RefusalFirst, LongFiles, StepsSteady, CallsJoin, KnownOutcomes, ZonesAgree, CallsAnswer, KnownWalks}
+use Rattle.model.specs.Promises.{AcceptedIff, RunIff, RefusalFirst, LongFiles, StepsSteady, CallsJoin, KnownOutcomes, KnownRequests, ZonesAgree, CallsAnswer, KnownWalks}
 use Rattle.model.proofs.Tests.{by-cond}
 use Rattle.model.proofs.Reflection.{Reflects, le-reflects, and-reflects}
 use Rattle.model.proofs.Accepted.{accepted-iff, runnable-iff, refusal-first, run-refusal-first}
@@ -90,6 +90,10 @@ calls-join = record { join = joining-calls; runs = runs-join }
 pub known-outcomes : KnownOutcomes
 unfolding Outcomes.table Outcomes.numbers every agrees
 known-outcomes = record { compares = λ n given expected same. same; agree = all-agree Outcomes.table refl; complete = refl }
+
+pub known-requests : KnownRequests
+unfolding Outcomes.requests Outcomes.numbers every agrees
+known-requests = record { agree = all-agree Outcomes.requests refl; complete = refl }
 
 -- ---- demand 3's terms
 

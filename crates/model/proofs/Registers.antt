@@ -15,18 +15,12 @@ use Rattle.model.specs.Words.{modulus, readBytes, writeBytes}
 use Rattle.model.specs.Ranges.{low, high, put, common, isEmpty, cut, cutBoth}
 use Rattle.model.specs.Instructions.{reg}
 use Rattle.model.specs.Safety.{EightWords, Bytes}
+use Rattle.model.specs.Accuracy.{Within}
 use Rattle.model.proofs.Tests.{by-cond}
 
 -- a value lies in a range
 abbrev pub In : Range → ℕ → Type 0
 In x v = (x .low ≤ v) × (v ≤ x .high)
-
--- the registers lie within their ranges
-pub record Within (k : Ranges) (rs : List ℕ) : Type 0 where
-  pub lows8 : length (k .lows) ≡ 8
-  pub highs8 : length (k .highs) ≡ 8
-  pub low : (r : ℕ) → r < 8 → low k r ≤ reg rs r
-  pub high : (r : ℕ) → r < 8 → reg rs r ≤ high k r
 
 -- ---- ranges that change
 

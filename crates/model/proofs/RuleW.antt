@@ -1,12 +1,12 @@
 -- Rule W against wrapping: what lies between two exact ends lies, wrapped, in the range that rule W makes of them.
 -- Assumes nothing.
-use Prim.Native.Nat.{ℕ, suc, _+_, _-_, _*_, _%_, _≤_, _<_}
+use Prim.Native.Nat.{ℕ, zero, suc, _+_, _-_, _*_, _%_, _≤_, _<_}
 use mathlib.Core.Path.{_≡_}
 use mathlib.Core.Bool.{cond, _&&_}
 use native.Mathlib.Omega.{arith}
-use lib.Dec.{leb, ltb}
-use lib.IntN.{ℤ, pos, negsuc, _+ℤ_, subℕ}
-use lib.Signed.{mag}
+use lib.Dec.{T, leb, ltb, leb→le, le→leb}
+use lib.IntN.{ℤ, pos, negsuc, _+ℤ_, _-ℤ_, subℕ}
+use lib.Signed.{mag, leZ}
 use borrow.Author.Tests.{ltb-true, ltb-false, leb-true}
 use Rattle.model.specs.declared.Range.{Range}
 use Rattle.model.specs.Words.{modulus, wrap, signed}
@@ -32,7 +32,22 @@ abbrev pub raised : ℤ → ℕ
 raised (pos n) = modulus + n
 raised (negsuc n) = modulus - suc n
 
-raised-difference : (a b : ℕ) → raised (subℕ a b) ≡ modulus + a - b
+-- it keeps the order
+pub raised-mono : (a b : ℤ) → T (leZ a b) → raised a ≤ raised b
+raised-mono (pos a) (pos b) t = omega (arith, leb→le a b t)
+raised-mono (pos a) (negsuc b) t = absurd t
+raised-mono (negsuc a) (pos b) t = omega arith
+raised-mono (negsuc a) (negsuc b) t = omega (arith, leb→le b a t)
+
+-- and tells it, of numbers from above -2^32
+pub raised-tells : (a b : ℤ) → 0 < raised b → raised a ≤ raised b → T (leZ a b)
+raised-tells (pos a) (pos b) some h = le→leb a b (omega arith)
+raised-tells (pos a) (negsuc b) some h = absurd (omega arith)
+raised-tells (negsuc a) (pos b) some h = tt
+raised-tells (negsuc a) (negsuc b) some h = le→leb b a (omega arith)
+
+-- a difference, raised
+pub raised-difference : (a b : ℕ) → raised (subℕ a b) ≡ modulus + a - b
 raised-difference a b =
     by-cond (λ (z : ℤ). raised z ≡ modulus + a - b) (ltb a b)
     (λ t. omega (arith, ltb-true a b t)) (λ f. omega (arith, ltb-false a b f))
@@ -66,7 +81,8 @@ pub signed32-raisable : (z : ℤ) → Signed32 z → Raisable z
 signed32-raisable (pos n) h = tt
 signed32-raisable (negsuc n) h = omega arith
 
-signed32-raised : (z : ℤ) → Signed32 z → raised z < 2 * modulus
+-- and, raised, lies as near 2^32
+pub signed32-raised : (z : ℤ) → Signed32 z → (0x8000_0000 ≤ raised z) × (raised z < modulus + 0x8000_0000)
 signed32-raised (pos n) h = omega arith
 signed32-raised (negsuc n) h = omega arith
 
@@ -75,6 +91,15 @@ pub signed-signed32 : (x : ℕ) → x < modulus → Signed32 (signed x)
 unfolding signed
 signed-signed32 x h =
     by-cond Signed32 (ltb x 0x8000_0000) (λ t. ltb-true x 0x8000_0000 t) (λ f. omega (arith, ltb-false x 0x8000_0000 f))
+
+-- a number from -2^31 up less such a one, raised
+pub raised-less : (x z : ℤ) → modulus ≤ raised x + 0x8000_0000 → Signed32 z → raised (x -ℤ z) + raised z ≡ modulus + raised x
+raised-less (pos a) (pos zero) least s = omega arith
+raised-less (pos a) (pos (suc n)) least s = omega (arith, raised-difference a (suc n))
+raised-less (pos a) (negsuc n) least s = omega arith
+raised-less (negsuc a) (pos zero) least s = omega (arith, raised-difference 0 (suc a))
+raised-less (negsuc a) (pos (suc n)) least s = omega arith
+raised-less (negsuc a) (negsuc n) least s = omega (arith, raised-difference (suc n) (suc a))
 
 -- ---- rule W
 

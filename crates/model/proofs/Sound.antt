@@ -21,9 +21,10 @@ use Rattle.model.specs.Step.{shapeAt}
 use Rattle.model.specs.File.{byteAt, isRegister, hasNothing, hasA, hasAB, hasAAmount, hasImm, hasAImm, hasABWImm, provided, rows, widthOf, testOf, decode, instructionAt, instructionIn, instructionCount, programOf}
 use Rattle.model.specs.Rules.{LayoutKept}
 use Rattle.model.specs.Safety.{EightWords}
+use Rattle.model.specs.Accuracy.{Within}
 use Rattle.model.proofs.Tests.{and-left, and-right}
 use Rattle.model.proofs.Tabulate.{tabulate-everywhere}
-use Rattle.model.proofs.Registers.{Within, read-below}
+use Rattle.model.proofs.Registers.{read-below}
 use Rattle.model.proofs.RuleW.{Signed32, signed-signed32}
 use Rattle.model.proofs.Values.{Fits, register-fits, constant-fits, add-fits, addi-fits, sub-fits, and-fits, guard-fits, shr-fits, sar-fits}
 

@@ -21,8 +21,9 @@ use Rattle.model.specs.Ranges.{range, rangeOf, ruleW, regionRange, guard
 use Rattle.model.specs.Instructions.{bytesOf, loadRange, reg, guarded}
 use Rattle.model.specs.Rules.{LayoutKept}
 use Rattle.model.specs.Safety.{EightWords}
+use Rattle.model.specs.Accuracy.{Within}
 use Rattle.model.proofs.Tests.{by-cond, and-left, and-right, or-cases}
-use Rattle.model.proofs.Registers.{In, Within, read-below}
+use Rattle.model.proofs.Registers.{In, read-below}
 use Rattle.model.proofs.RuleW.{Signed32, wrap-below, ruleW-add, ruleW-addi, ruleW-sub}
 
 -- a word that lies in a range

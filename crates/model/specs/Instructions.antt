@@ -1,11 +1,11 @@
 -- The sixteen instructions: document 01's table, both columns, and what else the rules ask of an instruction.
 -- Assumes nothing.
-use Prim.Native.Nat.{ℕ, zero, suc, _+_, _-_, _*_, _/_, _%_, _^_, min}
-use mathlib.Core.Bool.{Bool, true, false, cond}
+use Prim.Native.Nat.{ℕ, _+_, _-_, _*_, _/_, _%_, _^_, min}
+use mathlib.Core.Bool.{Bool, true, false}
 use mathlib.Core.List.{List}
 use mathlib.Core.Option.{Option, none, some}
 use lib.Dec.{ltb, eqb}
-use lib.IntN.{ℤ, pos, negsuc, _+ℤ_, subℕ}
+use lib.IntN.{ℤ, pos, _+ℤ_, _-ℤ_, subℕ}
 use lib.Signed.{ltZ}
 use lib.ListN.{getD}
 use Rattle.model.specs.declared.Instruction.{Instruction}
@@ -18,7 +18,7 @@ use Rattle.model.specs.declared.Test.the-variants.{Equal, Below, SignedB
 use Rattle.model.specs.declared.Width.{Width}
 use Rattle.model.specs.declared.Width.the-variants.{One, Two, Four}
 use Rattle.model.specs.Words.{wrap, signed, arithmeticShift, bitwiseAnd}
-use Rattle.model.specs.Ranges.{range, low, high, rangeOf, put, ruleW, guardRange, shrRange, sarRange, cut, ruleB}
+use Rattle.model.specs.Ranges.{range, low, high, rangeOf, put, ruleW, guardRange, shrRange, sarRange, cut, between, ruleB}
 
 -- "For load and store w is 1, 2 or 4."
 abbrev pub bytesOf : Width → ℕ
@@ -107,14 +107,16 @@ traits (branches test a b to) = has none (some to) none none true
 traits (checks a) = has none none none (some a) true
 traits (jumpsVia a) = has none none (some a) none false
 
-abbrev pub isZero : ℤ → Bool
-isZero (pos zero) = true
-isZero (pos (suc n)) = false
-isZero (negsuc n) = false
+-- the pointers from which an access of w bytes at imm lies in the region, by exact sums: from DB − imm to DL − w + 1 − imm, whole
+-- numbers that need not be words
+abbrev pub pointersInto : Range → Width → ℤ → Range
+pointersInto region w imm = between (pos (region .low) -ℤ imm) (subℕ (region .high) (bytesOf w - 1) -ℤ imm)
 
--- "Rule N: after a load or store with imm = 0, b's range is cut to DB to DL."
+-- document 02, ticket 1: "Rule N shall cut b for every imm and width: exact b + imm lies from DB to DL − w + 1. The rule against
+-- empty cuts and the case of a load with a = b remain."
 unfoldable pub ruleN : Range → Access → Ranges → Ranges
-ruleN region ac k = cond (isZero (ac .displacement)) (put k (ac .pointer) (cut (rangeOf k (ac .pointer)) region)) k
+ruleN region ac k =
+    put k (ac .pointer) (cut (rangeOf k (ac .pointer)) (pointersInto region (ac .width) (ac .displacement)))
 
 -- the ranges along the edge to the next index ("A load with a = b keeps the loaded range instead."), the region being DB to DL,
 -- and along the edge that a jump or taken branch takes

@@ -1,13 +1,14 @@
 -- The definitions: what an auditor reads, and all that need be believed. Each stands under the sentence of document 01 (the scope
--- document) or of the demands that it says; text in quotation marks is theirs, word for word.
+-- document), of document 02 (the change requests, ticket by ticket) or of the demands that it says; text in quotation marks is theirs,
+-- word for word.
 --
--- Reading order, each file after those that it stands on: Words (bytes, words, wrapping, the signed reading); Ranges (rule W, cuts, rule B); Program;
--- Instructions (the table, both columns, one row an opcode; rule N); Step (access, places, the listed step); File (fields, layout,
--- instructions, targets, refusals 1 to 7); Obligations (what is judged, and "the first rule broken and where"); Judgement (rules 8 to
--- 13 and the verdict); Rules (every rule again, stated by itself, with no order and no test in it); Answers (numbers of refusals and
--- endings); Run (the run, and 14 and 15); Walk; Safety (demand 3); Clauses (the same for two calls, clause by clause); Outcomes, Walks
--- and Loop (known outcomes as tables); Line (what the gate program prints); Promises (every promise as a type, demand by demand).
--- Quantifiers has four small tests.
+-- Reading order, each file after those that it stands on: Words (bytes, words, wrapping, the signed reading); Ranges (rule W, cuts,
+-- rule B); Program; Instructions (the table, both columns, one row an opcode; rule N); Step (access, places, the listed step); File
+-- (fields, layout, instructions, targets, refusals 1 to 7); Obligations (what is judged, and "the first rule broken and where");
+-- Judgement (rules 8 to 13 and the verdict); Rules (every rule again, stated by itself, with no order and no test in it); Answers
+-- (numbers of refusals and endings); Run (the run, and 14 and 15); Walk; Safety (demand 3); Accuracy (the ranges are right); Clauses
+-- (demand 3 for two calls, clause by clause); Outcomes, Walks and Loop (known outcomes as tables); Line (what the gate program
+-- prints); Promises (every promise as a type, demand by demand). Quantifiers has four small tests.
 --
 -- The documents' words and ours: a door is a target, open indirect, inner direct; the machine record is the Machine, its place the pc;
 -- turned away is Denied, strayed Violated, spent OutOfBudget; no way in is Unreachable, runs off FallsOff, no ground NoRoom; an item
@@ -39,6 +40,7 @@ pub mod Run
 pub mod Rules
 pub mod Walk
 pub mod Safety
+pub mod Accuracy
 pub mod Outcomes
 pub mod Walks
 pub mod Loop

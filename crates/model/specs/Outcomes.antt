@@ -1,25 +1,27 @@
--- The known outcomes that are proved, P1 to P12: what the definitions give, and what document 01 says. The claim that the two
--- agree in every row is `KnownOutcomes` in Promises. Assumes nothing.
+-- The known outcomes that are proved, P1 to P12 and those of document 02's tickets: what the definitions give, and what the documents
+-- say. The claims that the two agree in every row are `KnownOutcomes` and `KnownRequests` in Promises. Assumes nothing.
 use Prim.Native.Nat.{ℕ, _+_, _-_}
-use mathlib.Core.Bool.{true}
+use mathlib.Core.Bool.{true, false}
 use mathlib.Core.List.{List, [], _∷_, _++_}
 use mathlib.Core.Option.{Option, none, some}
 use lib.IntN.{ℤ, pos, negsuc, sucℤ, predℤ}
 use lib.ListN.{getD, replicate}
 use Rattle.model.specs.declared.Ending.{Ending}
 use Rattle.model.specs.declared.Instruction.{Instruction}
-use Rattle.model.specs.declared.Instruction.the-variants.{Halt, Addi, Guard, Sar, Load, Branch}
+use Rattle.model.specs.declared.Instruction.the-variants.{Halt, Set, Addi, Guard, Sar, Load, Jump, Branch}
 use Rattle.model.specs.declared.Layout.{Layout}
 use Rattle.model.specs.declared.Machine.{Machine}
 use Rattle.model.specs.declared.Range.{Range}
 use Rattle.model.specs.declared.Ranges.{Ranges}
+use Rattle.model.specs.declared.Target.{Target}
 use Rattle.model.specs.declared.Test.the-variants.{Below}
 use Rattle.model.specs.declared.Width.{Width}
-use Rattle.model.specs.declared.Width.the-variants.{One, Four}
+use Rattle.model.specs.declared.Width.the-variants.{One, Two, Four}
+use Rattle.model.specs.Quantifiers.{allBelow}
 use Rattle.model.specs.Words.{top, wrap, signed, arithmeticShift, readBytes}
 use Rattle.model.specs.Obligations.{Fault, firstFault, eachFrom}
 use Rattle.model.specs.Answers.{endingNumber, Judgement, accepted, refused}
-use Rattle.model.specs.Ranges.{range, low, high, put, unknown, regionRange, ruleW, guardRange, sarRange, cut, cutBoth, ruleB, liesWithin}
+use Rattle.model.specs.Ranges.{range, anything, low, high, put, unknown, regionRange, ruleW, guardRange, sarRange, cut, between, cutBoth, ruleB, liesWithin}
 use Rattle.model.specs.Program.{Program, targetAt}
 use Rattle.model.specs.Instructions.{guarded, shape, ruleN, afterNext, afterTaken}
 use Rattle.model.specs.Step.{inRegion, inZones, accessing, effect, addressesFrom, settle, stepOf, step}
@@ -27,7 +29,7 @@ use Rattle.model.specs.File.{isListed, field, tabulate, fieldValue, read
 use Rattle.model.specs.Judgement.{knownAt, isReachable, isChecked, isContained, accessContained, jumpsToTarget, staysInside, takenKept, nextKept, beforeNext, atIndex, verified, obligations, firstBroken, judgement}
 use Rattle.model.specs.Run.{run, steps}
 
--- a row: the outcome's number, what the definitions give, and what document 01 says
+-- a row: the outcome's number, what the definitions give, and what the document says
 pub record Row : Type 0 where
   pub number : ℕ
   pub given : List ℕ
@@ -40,13 +42,13 @@ row n g e = record { number = n; given = g; expected = e }
 abbrev pub layout : Layout
 layout = record { base = 0x2000_0000; size = 4096; guard = 256 }
 
--- a module of one instruction and a halt, with the one target that a module must have
-abbrev pub only : Instruction → Program
-only i = record {
-  layout = layout;
-  code = i ∷ Halt ∷ [];
-  targets = record { index = 0; indirect = true; claim = unknown } ∷ [];
-}
+-- the one target that a module must have
+abbrev pub entry : Target
+entry = record { index = 0; indirect = true; claim = unknown }
+
+-- a module of one instruction and a halt
+abbrev pub only : Layout → Instruction → Program
+only l i = record { layout = l; code = i ∷ Halt ∷ []; targets = entry ∷ [] }
 
 -- a machine with x in r0 and r1, and a region of zeros
 abbrev pub holding : ℕ → Machine
@@ -73,9 +75,12 @@ abbrev pub spent : ℕ
 spent = 4
 
 -- one step from r0 = r1 = x: r0 after it, and how it ended
-unfoldable pub stepped : Instruction → ℕ → List ℕ
+unfoldable pub steppedIn : Layout → Instruction → ℕ → List ℕ
 unfolding step stepOf settle effect accessing shape guarded wrap inRegion inZones readBytes addressesFrom targetAt endingNumber
-stepped i x = let s = step (only i) (holding x) zeros in getD (s .machine .registers) 0 0 ∷ endingOr running (s .ending) ∷ []
+steppedIn l i x = let s = step (only l i) (holding x) zeros in getD (s .machine .registers) 0 0 ∷ endingOr running (s .ending) ∷ []
+
+abbrev pub stepped : Instruction → ℕ → List ℕ
+stepped = steppedIn layout
 
 -- r0's and r1's ranges
 abbrev pub knowing : Range → Range → Ranges
@@ -85,30 +90,29 @@ abbrev pub shown : Ranges → List ℕ
 shown k = low k 0 ∷ high k 0 ∷ low k 1 ∷ high k 1 ∷ []
 
 -- their ranges after an instruction: on the way to the next index, and along the taken edge
-unfoldable pub next : Instruction → Range → Range → List ℕ
-unfolding afterNext shape ruleW sarRange arithmeticShift signed wrap ruleB cutBoth
-next i x y = shown (afterNext (regionRange layout) (shape i) (knowing x y))
+unfoldable pub nextIn : Layout → Instruction → Range → Range → List ℕ
+unfolding afterNext shape ruleW sarRange arithmeticShift signed wrap ruleN cut between ruleB cutBoth
+nextIn l i x y = shown (afterNext (regionRange l) (shape i) (knowing x y))
+
+abbrev pub next : Instruction → Range → Range → List ℕ
+next = nextIn layout
 
 unfoldable pub taken : Instruction → Range → Range → List ℕ
 unfolding afterTaken shape ruleB cutBoth
 taken i x y = shown (afterTaken (shape i) (knowing x y))
 
--- the judgement of an access of four bytes through r1, which a guard has put in DB to DL: 0 where it is kept, or the refusal's number
--- and place
-abbrev pub through : ℤ → Program
-through imm = record {
-  layout = layout;
-  code = Guard 1 ∷ Load 0 1 Four imm ∷ Halt ∷ [];
-  targets = record { index = 0; indirect = true; claim = unknown } ∷ [];
-}
-
+-- the judgement of code and of the targets after the first: 0 where it is kept, or the refusal's number and place
 abbrev pub faultTold : Option Fault → List ℕ
 faultTold none = 0 ∷ []
 faultTold (some f) = f .number ∷ f .place ∷ []
 
-unfoldable pub accessed : ℤ → List ℕ
-unfolding verified eachFrom firstFault atIndex beforeNext isReachable isChecked accessContained isContained jumpsToTarget staysInside takenKept nextKept liesWithin knownAt targetAt shape afterNext afterTaken ruleN ruleW guardRange cut
-accessed imm = faultTold (firstFault (verified (through imm)))
+unfoldable pub judged : List Instruction → List Target → List ℕ
+unfolding allBelow verified eachFrom firstFault atIndex beforeNext isReachable isChecked accessContained isContained jumpsToTarget staysInside takenKept nextKept liesWithin knownAt targetAt shape afterNext afterTaken ruleN ruleW guardRange cut between
+judged code targets = faultTold (firstFault (verified (record { layout = layout; code = code; targets = entry ∷ targets })))
+
+-- of an access of four bytes through r1, which a guard has put in DB to DL
+abbrev pub accessed : ℤ → List ℕ
+accessed imm = judged (Guard 1 ∷ Load 0 1 Four imm ∷ Halt ∷ []) []
 
 -- at a displacement, and at the next one above or below
 abbrev pub andAbove : ℤ → List ℕ
@@ -123,7 +127,7 @@ load w = Load 0 1 w (pos 0)
 -- a run of no steps: its ending and its count
 unfoldable pub ran : ℕ → List ℕ
 unfolding run endingNumber
-ran budget = let r = run (only Halt) budget (holding 0) zeros in endingNumber (r .ending) ∷ steps r ∷ []
+ran budget = let r = run (only layout Halt) budget (holding 0) zeros in endingNumber (r .ending) ∷ steps r ∷ []
 
 -- a judgement: 0 and the counts, or the refusal's number and place
 abbrev pub verdictTold : Judgement → List ℕ
@@ -138,7 +142,7 @@ abbrev pub below : Instruction
 below = Branch 0 1 Below 0
 
 unfoldable pub table : List Row
-unfolding stepped next taken accessed ran verdictOn
+unfolding steppedIn nextIn taken judged ran verdictOn
 table =
     row 1 (stepped (Guard 0) 0) (0x2000_0000 ∷ running ∷ [])
     ∷ row 2 (stepped (Guard 0) 0xFFFF_FFFF) (0x2000_0FFF ∷ running ∷ [])
@@ -155,6 +159,59 @@ table =
     (0x1FFF_FF00 ∷ trapped ∷ 0x1FFF_FEFF ∷ strayed ∷ [])
     ∷ row 11 (ran 0) (spent ∷ 0 ∷ [])
     ∷ row 12 (verdictOn []) (1 ∷ 0 ∷ [])
+    ∷ []
+
+-- ---- document 02: each row has its ticket's number
+
+-- a direct target, and what it claims of r1 and of r2
+abbrev pub claiming : ℕ → Range → Range → Target
+claiming i x y = record { index = i; indirect = false; claim = put (put unknown 1 x) 2 y }
+
+-- the region's first and last address
+abbrev pub DB : ℕ
+DB = regionRange layout .low
+
+abbrev pub DL : ℕ
+DL = regionRange layout .high
+
+-- "loads the left sample at imm 0 and the right one at imm 2", and again, four bytes further
+abbrev pub stereo : List ℕ
+stereo =
+    judged (Guard 1 ∷ Load 0 1 Two (pos 0) ∷ Load 2 1 Two (pos 2) ∷ Addi 1 (pos 4) ∷ Jump 1 ∷ [])
+    (claiming 1 (range DB (DL + 1)) anything ∷ [])
+
+-- "Pointers that are only ever used with imm other than 0"
+abbrev pub onlyRight : List ℕ
+onlyRight = judged (Guard 1 ∷ Load 0 1 Two (pos 2) ∷ Addi 1 (pos 4) ∷ Jump 1 ∷ []) (claiming 1 (range DB (DL + 4)) anything ∷ [])
+
+-- "a module can also turn to refused where a cut is now empty and so not made": a cut of rule N, and one of rule B
+abbrev pub emptyByN : List ℕ
+emptyByN =
+    judged (Set 1 (DL - 1) ∷ Load 0 1 Four (pos 0) ∷ Halt ∷ [])
+    (claiming 1 (range (DL - 1) (DL + 100)) anything ∷ claiming 2 (range (DL - 1) DL) anything ∷ [])
+
+abbrev pub emptyByB : List ℕ
+emptyByB =
+    judged (Set 1 DL ∷ Set 2 DL ∷ Load 0 1 One (pos 1) ∷ Branch 1 2 Below 0 ∷ Halt ∷ [])
+    (claiming 2 (range (DL - 5) (DL + 50)) (range DL (DL + 1)) ∷ claiming 4 (range DL (DL + 50)) anything ∷ [])
+
+-- an access that breaks 10, in a region that ends at the last address: from r1 = 0 its wrapped address lies in the region, so that it
+-- is done; by exact sums r1 is FFFFF010 hex at least. So ranges are right "only where the access keeps 10".
+abbrev pub highest : Layout
+highest = record { base = 0xFFFF_F000; size = 4096; guard = 0 }
+
+abbrev pub wrapping : Instruction
+wrapping = Load 0 1 Four (negsuc 15)
+
+unfoldable pub requests : List Row
+unfolding steppedIn nextIn judged
+requests =
+    row 1 stereo (0 ∷ [])
+    ∷ row 1 onlyRight (0 ∷ [])
+    ∷ row 1 emptyByN (11 ∷ 1 ∷ [])
+    ∷ row 1 emptyByB (11 ∷ 3 ∷ [])
+    ∷ row 1 (steppedIn highest wrapping 0) (0 ∷ running ∷ [])
+    ∷ row 1 (nextIn highest wrapping anything anything) (0 ∷ top ∷ 0xFFFF_F010 ∷ top ∷ [])
     ∷ []
 
 -- the outcomes' numbers, in order

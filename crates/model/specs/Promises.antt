@@ -105,6 +105,11 @@ pub record LoopJudged : Type 0 where
       ∷ judgement (loopWith 7 0x2000_1003) ∷ judgement (loopWith 6 0x2000_1003) ∷ judgement (loopWith 256 0x2000_0FFF) ∷ [])
       ≡ (accepted 4 2 ∷ accepted 4 2 ∷ refused (fault 10 1) ∷ refused (fault 11 3) ∷ [])
 
+-- and in every row of document 02's tickets they give what it says
+pub record KnownRequests : Type 0 where
+  pub agree : (r : Row) → List·Memᴰ r Outcomes.requests → r .given ≡ r .expected
+  pub complete : numbers Outcomes.requests ≡ 1 ∷ 1 ∷ 1 ∷ 1 ∷ 1 ∷ 1 ∷ []
+
 -- "Numbers are decimal": a number below ten is its digit, and any other has the digits of its tenth and then its last
 pub record DecimalKnown : Type 0 where
   pub small : (n : ℕ) → n < 10 → decimal n ≡ digit n ∷ []

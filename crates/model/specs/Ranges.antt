@@ -1,4 +1,4 @@
--- Ranges of registers, and document 01's rule W and cuts. Assumes nothing.
+-- Ranges of registers, and document 01's rule W, cuts and rule B. Assumes nothing.
 use Prim.Native.Nat.{ℕ, suc, _+_, _-_, _/_, _^_, min, max}
 use mathlib.Core.Bool.{Bool, true, false, cond, _&&_, _||_}
 use lib.Dec.{leb, ltb, eqb}
@@ -83,6 +83,16 @@ pair x y = record { first = x; second = y }
 
 unfoldable pub cutBoth : Range → Range → Range → Range → Pair
 cutBoth x p y q = cond (isEmpty (common x p) || isEmpty (common y q)) (pair x y) (pair (common x p) (common y q))
+
+-- the natural numbers from one whole number to another, as rule N cuts to: an end is compared as it is and never wrapped. None lies
+-- below 0, so that the range is empty where the last number is negative.
+abbrev pub orZero : ℤ → ℕ
+orZero (pos n) = n
+orZero (negsuc n) = 0
+
+unfoldable pub between : ℤ → ℤ → Range
+between first (pos last) = range (orZero first) last
+between first (negsuc last) = range 1 0
 
 -- "Rule B: where a and b are the same register, or w is 2, nothing is cut. Equal and taken: each is cut to the common part.
 -- Equal and not taken: nothing. Unsigned and taken: a at most highest b − 1, b at least lowest a + 1. Unsigned and not taken:

@@ -14,6 +14,7 @@ use super::build::LOAD;
 use super::build::SAR;
 use super::build::SET;
 use super::build::SHR;
+use super::build::STORE;
 use super::build::SUB;
 use super::build::binary;
 use super::build::immediate;
@@ -155,6 +156,23 @@ fn from_pointer(plan: Plan, seed: &mut u32, a: u32) -> Ins {
     }
 }
 
+// From an access through r7: r7 is moved to its first byte, or as far above its last one as r7's claim goes above the
+// region, so that what rule N leaves of r7 just fits the claim; or one further, and it does not.
+fn from_access(plan: Plan, seed: &mut u32, before: Ins) -> Ins {
+    if before.b != POINTER || one_in(seed, 4) {
+        return fresh(plan, seed);
+    }
+    let first = before.imm;
+    let past = wrapping_add_u32(first, wrapping_add_u32(before.w, plan.slack));
+    let by = match below(seed, 6) {
+        0 | 1 => first,
+        2 => wrapping_sub_u32(first, 1),
+        3 | 4 => wrapping_sub_u32(past, 1),
+        _ => past,
+    };
+    immediate(ADDI, POINTER, by)
+}
+
 fn follow(plan: Plan, seed: &mut u32, before: Ins) -> Ins {
     let op = before.op;
     let a = before.a;
@@ -167,6 +185,7 @@ fn follow(plan: Plan, seed: &mut u32, before: Ins) -> Ins {
         ADD | ADDI | SUB => access(plan, seed, a, plan.guard / 2),
         ANDI | SHR | SAR => from_small(seed, a),
         GUARD => access(plan, seed, a, 0),
+        LOAD | STORE => from_access(plan, seed, before),
         _ => fresh(plan, seed),
     }
 }
@@ -198,7 +217,7 @@ fn inner(plan: Plan, seed: &mut u32, i: u32, before: Ins) -> Ins {
             return ender(plan, seed);
         }
     }
-    if may_check(plan, i) {
+    if may_check(plan, i) && one_in(seed, 2) {
         return check(seed, before);
     }
     if one_in(seed, 4) {

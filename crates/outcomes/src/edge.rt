@@ -16,7 +16,7 @@ use super::score::accepted;
 use super::score::asked;
 use super::score::refused;
 
-// The region of these modules is DB to DL.
+// The region of most of these modules is DB to DL.
 pub const DB: u32 = 536870912;
 
 pub const DL: u32 = 536871167;
@@ -32,8 +32,8 @@ struct Known {
 }
 
 // Instructions 0, 2 and 3 halt; where door 2 is at 2, a check stands there, as 3 is no door.
-fn write_code(buf: &mut [u8], x: Ins, to: u32) {
-    layout(buf, DB, 256, 256);
+fn write_code(buf: &mut [u8], base: u32, x: Ins, to: u32) {
+    layout(buf, base, 256, 256);
     headers(buf, 4, 3);
     instruction(buf, 1, x);
     if to == 2 {
@@ -61,9 +61,18 @@ fn narrower(score: &mut [u32; 4], buf: &mut [u8; 1024], r: u32, low: u32, high: 
 }
 
 // The range of register r along the edge from the instruction x to `to`, 2 or 3.
-fn edge(score: &mut [u32; 4], from: Known, x: Ins, to: u32, r: u32, low: u32, high: u32) {
+fn edge(
+    score: &mut [u32; 4],
+    base: u32,
+    from: Known,
+    x: Ins,
+    to: u32,
+    r: u32,
+    low: u32,
+    high: u32,
+) {
     let mut buf = [0u8; 1024];
-    write_code(&mut buf, x, to);
+    write_code(&mut buf, base, x, to);
     write_doors(&mut buf, from, to);
     claim(&mut buf, 4, 2, r, low, high);
     accepted(score, front(&buf, LENGTH), 4, 3);
@@ -91,8 +100,26 @@ pub(crate) fn range_row(score: &mut [u32; 4], row: &[u32; 13]) {
     } else {
         2
     };
-    edge(score, from, x, to, 1, row[9], row[10]);
-    edge(score, from, x, to, 2, row[11], row[12]);
+    edge(score, DB, from, x, to, 1, row[9], row[10]);
+    edge(score, DB, from, x, to, 2, row[11], row[12]);
+}
+
+// A row: where the region begins; w and imm of an access through r1, and the lowest and highest of r1 before and after.
+pub(crate) fn cut_row(score: &mut [u32; 4], op: u32, row: &[u32; 7]) {
+    let x = Ins {
+        op,
+        a: 2,
+        b: 1,
+        w: row[1],
+        imm: row[2],
+    };
+    let from = Known {
+        low1: row[3],
+        high1: row[4],
+        low2: 0,
+        high2: MOST,
+    };
+    edge(score, row[0], from, x, 2, 1, row[5], row[6]);
 }
 
 // A row: w and imm of an access through r1, the lowest and highest of r1, and the number of the refusal, 0 for none.
@@ -111,7 +138,7 @@ pub(crate) fn access_row(score: &mut [u32; 4], op: u32, row: &[u32; 5]) {
         high2: MOST,
     };
     let mut buf = [0u8; 1024];
-    write_code(&mut buf, x, 2);
+    write_code(&mut buf, DB, x, 2);
     write_doors(&mut buf, from, 2);
     asked(score, front(&buf, LENGTH), row[4], 1, 4, 3);
 }

@@ -1,4 +1,5 @@
-// The known cases, group by group: how many there are, and how many each implementation answers as document 01 says.
+// The known cases, group by group: how many there are, and how many each implementation answers as documents 01 and 02
+// say.
 use super::limit;
 use super::order;
 use super::range;
@@ -9,36 +10,39 @@ const RULE_B: u32 = 0;
 
 const RULE_N: u32 = 1;
 
-const ACCESSES: u32 = 2;
+const CUTS: u32 = 2;
 
-const RULE_W: u32 = 3;
+const ACCESSES: u32 = 3;
 
-const MOVES: u32 = 4;
+const RULE_W: u32 = 4;
 
-const SHIFTS: u32 = 5;
+const MOVES: u32 = 5;
 
-const ORDERS: u32 = 6;
+const SHIFTS: u32 = 6;
 
-const JUMPS: u32 = 7;
+const ORDERS: u32 = 7;
 
-const SPOILED: u32 = 8;
+const JUMPS: u32 = 8;
 
-const LAYOUTS: u32 = 9;
+const SPOILED: u32 = 9;
 
-const COUNTS: u32 = 10;
+const LAYOUTS: u32 = 10;
 
-const ROOMS: u32 = 11;
+const COUNTS: u32 = 11;
 
-const DONE: u32 = 12;
+const ROOMS: u32 = 12;
 
-const ENDS: u32 = 13;
+const DONE: u32 = 13;
 
-const OTHERS: u32 = 14;
+const ENDS: u32 = 14;
+
+const OTHERS: u32 = 15;
 
 fn case(score: &mut [u32; 4], group: u32, i: usize) {
     match group {
         RULE_B => range::rule_b(score, i),
         RULE_N => range::rule_n(score, i),
+        CUTS => range::cuts(score, i),
         ACCESSES => range::accesses(score, i),
         RULE_W => range::rule_w(score, i),
         MOVES => range::moves(score, i),
@@ -67,7 +71,8 @@ fn group(words: &[u8], which: u32, rows: usize) {
 
 pub(crate) fn groups() {
     group(b"rule B", RULE_B, 31);
-    group(b"rule N and loads", RULE_N, 20);
+    group(b"rule N and loads", RULE_N, 14);
+    group(b"rule N's cuts", CUTS, 43);
     group(b"accesses at the guard's edges", ACCESSES, 16);
     group(b"rule W", RULE_W, 21);
     group(b"set, copy, andi and guard", MOVES, 15);

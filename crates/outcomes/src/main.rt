@@ -1,4 +1,5 @@
-// Runs the known outcomes of document 01 and 3,000 generated modules on two implementations, and compares their answers.
+// Runs the known outcomes of documents 01 and 02 and 3,000 generated modules on two implementations, and compares their
+// answers.
 mod build;
 mod case;
 mod code;

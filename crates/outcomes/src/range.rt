@@ -15,6 +15,7 @@ use super::build::SUB;
 use super::edge::DB;
 use super::edge::DL;
 use super::edge::access_row;
+use super::edge::cut_row;
 use super::edge::range_row;
 
 // 2^31.
@@ -71,112 +72,77 @@ const RULE_B: [[u32; 13]; 31] = [
     [BRANCH, 1, 1, 1, 0, 5, 10, 0, MOST, 5, 10, 0, MOST],
 ];
 
-// Loads into another register and into the pointer, stores; what is cut to the region and what is not.
-const RULE_N: [[u32; 13]; 20] = [
+// Which register is cut, and what is known of the loaded one: loads into another register and into the pointer, stores
+// of another register and of the pointer.
+const RULE_N: [[u32; 13]; 14] = [
     [LOAD, 1, 1, 1, 0, DB, DL, 0, MOST, 0, 255, 0, MOST],
     [LOAD, 1, 1, 2, 0, DB, DL, 0, MOST, 0, 65535, 0, MOST],
     [LOAD, 1, 1, 4, 0, DB, DL, 0, MOST, 0, MOST, 0, MOST],
+    [LOAD, 1, 1, 2, 4, DB, DL + 8, 0, MOST, 0, 65535, 0, MOST],
     [LOAD, 2, 1, 1, 0, DB, DL, 5, 5, DB, DL, 0, 255],
-    [LOAD, 2, 1, 2, 0, DB, DL, 5, 5, DB, DL, 0, 65535],
-    [LOAD, 2, 1, 4, 0, DB, DL, 5, 5, DB, DL, 0, MOST],
-    [STORE, 2, 1, 4, 0, DB, DL, 5, 7, DB, DL, 5, 7],
+    [LOAD, 2, 1, 2, 0, DB, DL, 5, 5, DB, DL - 1, 0, 65535],
+    [LOAD, 2, 1, 4, 0, DB, DL, 5, 5, DB, DL - 3, 0, MOST],
+    [LOAD, 1, 2, 2, 4, 5, 5, DB, DL + 8, 0, 65535, DB, DL - 5],
+    [STORE, 2, 1, 1, 0, DB, DL, 5, 7, DB, DL, 5, 7],
+    [STORE, 2, 1, 2, 0, DB, DL, 5, 7, DB, DL - 1, 5, 7],
+    [STORE, 2, 1, 4, 0, DB, DL, 5, 7, DB, DL - 3, 5, 7],
     [STORE, 1, 1, 1, 0, DB - 8, DL + 8, 5, 7, DB, DL, 5, 7],
-    [LOAD, 2, 1, 1, 0, DB - 8, DL + 8, 0, MOST, DB, DL, 0, 255],
-    [
-        LOAD,
-        2,
-        1,
-        1,
-        4,
-        DB - 8,
-        DL + 8,
-        0,
-        MOST,
-        DB - 8,
-        DL + 8,
-        0,
-        255,
-    ],
-    [LOAD, 2, 1, 1, 0, DL, DL + 8, 0, MOST, DL, DL, 0, 255],
-    [
-        LOAD,
-        2,
-        1,
-        1,
-        0,
-        DL + 1,
-        DL + 8,
-        0,
-        MOST,
-        DL + 1,
-        DL + 8,
-        0,
-        255,
-    ],
-    [LOAD, 2, 1, 1, 0, DB - 8, DB, 0, MOST, DB, DB, 0, 255],
-    [
-        LOAD,
-        2,
-        1,
-        1,
-        0,
-        DB - 8,
-        DB - 1,
-        0,
-        MOST,
-        DB - 8,
-        DB - 1,
-        0,
-        255,
-    ],
-    [STORE, 2, 1, 1, 0, DB - 8, DL + 8, 0, MOST, DB, DL, 0, MOST],
-    [
-        STORE,
-        2,
-        1,
-        1,
-        4,
-        DB - 8,
-        DL + 8,
-        0,
-        MOST,
-        DB - 8,
-        DL + 8,
-        0,
-        MOST,
-    ],
-    [STORE, 2, 1, 1, 0, DL, DL + 8, 0, MOST, DL, DL, 0, MOST],
-    [
-        STORE,
-        2,
-        1,
-        1,
-        0,
-        DL + 1,
-        DL + 8,
-        0,
-        MOST,
-        DL + 1,
-        DL + 8,
-        0,
-        MOST,
-    ],
-    [STORE, 2, 1, 1, 0, DB - 8, DB, 0, MOST, DB, DB, 0, MOST],
-    [
-        STORE,
-        2,
-        1,
-        1,
-        0,
-        DB - 8,
-        DB - 1,
-        0,
-        MOST,
-        DB - 8,
-        DB - 1,
-        0,
-        MOST,
-    ],
+    [STORE, 1, 1, 2, 4, DB, DL + 8, 5, 7, DB, DL - 5, 5, 7],
+    [STORE, 1, 2, 2, 4, 5, 7, DB, DL + 8, 5, 7, DB, DL - 5],
+];
+
+// Where the addresses end 256 bytes above the region.
+const TOP: u32 = MOST - 511;
+
+// Each row: where the region begins, w and imm of an access through r1, the lowest and highest of r1 before and after.
+// First each width at an imm of 0, 4 and -4, where both ends are cut. Then ranges that end at the cut or one beyond it,
+// and those of which it leaves one value or would leave none, up to the guard's edges. Then, in a region near 0 and in
+// one near 2^32, ends of the cut that are 0 or 2^32 - 1, one beyond, and far beyond: they neither wrap nor stop there.
+// Last the least imm and the largest.
+const CUTS: [[u32; 7]; 43] = [
+    [DB, 1, 0, DB - 8, DL + 8, DB, DL],
+    [DB, 2, 0, DB - 8, DL + 8, DB, DL - 1],
+    [DB, 4, 0, DB - 8, DL + 8, DB, DL - 3],
+    [DB, 1, 4, DB - 8, DL + 8, DB - 4, DL - 4],
+    [DB, 2, 4, DB - 8, DL + 8, DB - 4, DL - 5],
+    [DB, 4, 4, DB - 8, DL + 8, DB - 4, DL - 7],
+    [DB, 1, MOST - 3, DB - 8, DL + 8, DB + 4, DL + 4],
+    [DB, 2, MOST - 3, DB - 8, DL + 8, DB + 4, DL + 3],
+    [DB, 4, MOST - 3, DB - 8, DL + 8, DB + 4, DL + 1],
+    [DB, 4, 2, DB - 2, DL - 5, DB - 2, DL - 5],
+    [DB, 4, 2, DB - 2, DL - 4, DB - 2, DL - 5],
+    [DB, 4, 2, DB - 3, DL - 5, DB - 2, DL - 5],
+    [DB, 2, MOST - 1, DB + 2, DL + 1, DB + 2, DL + 1],
+    [DB, 2, MOST - 1, DB + 2, DL + 2, DB + 2, DL + 1],
+    [DB, 2, MOST - 1, DB + 1, DL + 1, DB + 2, DL + 1],
+    [DB, 1, 0, DL, DL + 8, DL, DL],
+    [DB, 1, 0, DL + 1, DL + 8, DL + 1, DL + 8],
+    [DB, 1, 0, DB - 8, DB, DB, DB],
+    [DB, 1, 0, DB - 8, DB - 1, DB - 8, DB - 1],
+    [DB, 4, 2, DL - 5, DL + 8, DL - 5, DL - 5],
+    [DB, 4, 2, DL - 4, DL + 8, DL - 4, DL + 8],
+    [DB, 2, MOST - 1, DB - 8, DB + 2, DB + 2, DB + 2],
+    [DB, 2, MOST - 1, DB - 8, DB + 1, DB - 8, DB + 1],
+    [DB, 1, 255, DB, DL, DB, DB],
+    [DB, 1, 256, DB, DL, DB, DL],
+    [DB, 4, 252, DB, DL, DB, DB],
+    [DB, 4, 253, DB, DL, DB, DL],
+    [DB, 4, MOST - 254, DB, DL, DL, DL],
+    [DB, 4, MOST - 255, DB, DL, DB, DL],
+    [256, 1, 256, 0, 511, 0, 255],
+    [256, 1, 257, 0, 510, 0, 254],
+    [256, 4, 300, 0, 464, 0, 208],
+    [256, 2, 510, 0, 256, 0, 0],
+    [256, 2, 511, 0, 255, 0, 255],
+    [256, 1, MOST - 255, 256, 1023, 512, 767],
+    [TOP, 1, MOST - 255, MOST - 511, MOST, MOST - 255, MOST],
+    [TOP, 1, MOST - 256, MOST - 510, MOST, MOST - 254, MOST],
+    [TOP, 4, MOST - 299, MOST - 467, MOST, MOST - 211, MOST],
+    [TOP, 1, MOST - 510, MOST - 256, MOST, MOST, MOST],
+    [TOP, 1, MOST - 511, MOST - 255, MOST, MOST - 255, MOST],
+    [TOP, 2, 256, MOST - 1023, MOST - 257, MOST - 767, MOST - 513],
+    [256, 1, HALF, HALF, HALF + 767, HALF + 256, HALF + 511],
+    [TOP, 1, HALF - 1, HALF - 767, HALF, HALF - 511, HALF - 256],
 ];
 
 // Sums and differences: neither end wraps, both do, one does.
@@ -404,8 +370,15 @@ pub(crate) fn rule_b(score: &mut [u32; 4], i: usize) {
 }
 
 pub(crate) fn rule_n(score: &mut [u32; 4], i: usize) {
-    let row = RULE_N[i % 20];
+    let row = RULE_N[i % 14];
     range_row(score, &row);
+}
+
+// Every cut by a load and by a store.
+pub(crate) fn cuts(score: &mut [u32; 4], i: usize) {
+    let row = CUTS[i % 43];
+    cut_row(score, LOAD, &row);
+    cut_row(score, STORE, &row);
 }
 
 pub(crate) fn rule_w(score: &mut [u32; 4], i: usize) {

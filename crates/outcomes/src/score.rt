@@ -75,7 +75,7 @@ pub(crate) fn roomed(x: Ran, number: u32) -> bool {
 
 pub(crate) fn report(words: &[u8], score: &[u32; 4]) {
     write(words);
-    write(b": as document 01 says ");
+    write(b": as documents 01 and 02 say ");
     write_number(score[1]);
     write(b" and ");
     write_number(score[2]);

@@ -1,34 +1,74 @@
 -- Cuts and rule B, by the steps of the code, which takes what a call gave it for the range that the definition names.
 -- Assumes nothing.
-use Prim.Native.Nat.{ℕ, _+_, _-_, _<_, min, max}
+use Prim.Native.Nat.{ℕ, suc, _+_, _-_, _≤_, _<_, min, max}
 use mathlib.Core.Path.{_≡_, refl, sym, ap, ap₂, _∙_}
 use mathlib.Core.Bool.{Bool, true, false, cond, _||_}
 use native.Mathlib.Omega.{arith}
-use borrow.Author.Tests.{lt-ltb, eq-eqb, ne-eqb}
+use lib.Dec.{ltb}
+use lib.IntN.{ℤ, pos, negsuc, subℕ}
+use borrow.Author.Tests.{lt-ltb, le-ltb, ltb-true, ltb-false, eq-eqb, ne-eqb}
 use Rattle.model.specs.declared.Pair.{Pair}
 use Rattle.model.specs.declared.Range.{Range}
 use Rattle.model.specs.declared.Ranges.{Ranges}
 use Rattle.model.specs.declared.Test.{Test}
 use Rattle.model.specs.declared.Test.the-variants.{Below}
-use Rattle.model.specs.Words.{top}
-use Rattle.model.specs.Ranges.{range, rangeOf, common, isEmpty, cut, pair, cutBoth, cutFor, putBoth, ruleB}
-use Rattle.model.proofs.Tests.{cond-true, cond-false}
+use Rattle.model.specs.Words.{modulus, top}
+use Rattle.model.specs.Ranges.{range, rangeOf, common, isEmpty, cut, orZero, between, pair, cutBoth, cutFor, putBoth, ruleB}
+use Rattle.model.proofs.Tests.{by-cond, cond-true, cond-false}
 
 either-second : (a b : Bool) → b ≡ true → (a || b) ≡ true
 either-second true b second = refl
 either-second false b second = second
 
--- a cut of one range, of which `left` is left
-module _ (x p left : Range) (is-left : left ≡ common x p) where
-  chosen : cond (isEmpty left) x left ≡ cut x p
+-- a cut of one range
+module _ (x p : Range) where
+  nothing-common : min (x .high) (p .high) < max (x .low) (p .low) → x ≡ cut x p
   unfolding cut
-  chosen = ap (λ (y : Range). cond (isEmpty y) x y) is-left
+  nothing-common empty = sym (cond-true (isEmpty (common x p)) x (common x p) (lt-ltb (min (x .high) (p .high)) (max (x .low) (p .low)) empty))
 
-  pub nothing-left : isEmpty left ≡ true → x ≡ cut x p
-  nothing-left empty = sym (cond-true (isEmpty left) x left empty) ∙ chosen
+  some-common : max (x .low) (p .low) ≤ min (x .high) (p .high) → common x p ≡ cut x p
+  unfolding cut
+  some-common more = sym (cond-false (isEmpty (common x p)) x (common x p) (le-ltb (min (x .high) (p .high)) (max (x .low) (p .low)) more))
 
-  pub some-left : isEmpty left ≡ false → left ≡ cut x p
-  some-left more = sym (cond-false (isEmpty left) x left more) ∙ chosen
+-- to what lies from one number to another, both raised
+module _ (x : Range) (from to : ℕ) where
+  abbrev lowest : ℕ
+  lowest = max (modulus + x .low) from
+
+  abbrev highest : ℕ
+  highest = min (modulus + x .high) to
+
+  -- what the last number leaves if it is not negative
+  abbrev naturals : Range
+  naturals = range (from - modulus) (to - modulus)
+
+  or-zero : orZero (subℕ from modulus) ≡ from - modulus
+  or-zero =
+      by-cond (λ (z : ℤ). orZero z ≡ from - modulus) (ltb from modulus)
+      (λ t. omega (arith, ltb-true from modulus t)) (λ _. refl)
+
+  by-last : (r : Range) → (to < modulus → r ≡ cut x (range 1 0)) → (modulus ≤ to → r ≡ cut x naturals)
+      → r ≡ cut x (between (subℕ from modulus) (subℕ to modulus))
+  unfolding between
+  by-last r negative natural =
+      by-cond (λ (last : ℤ). r ≡ cut x (between (subℕ from modulus) last)) (ltb to modulus)
+      (λ t. negative (ltb-true to modulus t))
+      (λ f. natural (ltb-false to modulus f) ∙ ap (λ (first : ℕ). cut x (range first (to - modulus))) (sym or-zero))
+
+  pub nothing-left : highest < lowest → x ≡ cut x (between (subℕ from modulus) (subℕ to modulus))
+  nothing-left empty = by-last x (λ below. nothing-common x (range 1 0) (omega arith)) (λ above. nothing-common x naturals (omega arith))
+
+  pub some-left : lowest ≤ highest
+      → range (lowest - modulus) (highest - modulus) ≡ cut x (between (subℕ from modulus) (subℕ to modulus))
+  some-left more =
+      by-last (range (lowest - modulus) (highest - modulus)) (λ below. absurd (omega arith))
+      (λ above. ap₂ range lowest-is highest-is ∙ some-common x naturals (omega arith))
+    where
+      lowest-is : lowest - modulus ≡ max (x .low) (from - modulus)
+      lowest-is = omega arith
+
+      highest-is : highest - modulus ≡ min (x .high) (to - modulus)
+      highest-is = omega arith
 
 -- a cut of two ranges
 module _ (x p y q left right : Range) (is-left : left ≡ common x p) (is-right : right ≡ common y q) where

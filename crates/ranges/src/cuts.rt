@@ -1,6 +1,7 @@
 // Cuts, and rule B.
 use crate::knowledge::put;
 use crate::knowledge::range_of;
+use crate::sums::WORDS;
 use model::Pair;
 use model::Range;
 use model::Ranges;
@@ -8,7 +9,9 @@ use model::Test;
 ghost use mathlib.Core.Path.{_≡_};
 ghost use mathlib.Core.Bool.{true, false};
 ghost use Prim.Native.Nat.{min, max};
-ghost use Rattle.model.specs.Ranges.{common, isEmpty, cut, cutBoth, cutFor, ruleB};
+ghost use lib.IntN.{subℕ};
+ghost use Rattle.model.specs.Words.{modulus};
+ghost use Rattle.model.specs.Ranges.{common, isEmpty, cut, between, cutBoth, cutFor, ruleB};
 
 fn larger(x: u32, y: u32) -> u32
     ensures { λ r. ⌜ r ≡ max x y ⌝ }
@@ -38,12 +41,32 @@ fn is_empty(x: Range) -> bool
     x.high < x.low
 }
 
-// A range is cut to another: "if any cut would leave an empty range, none of that cut is made".
-pub(crate) fn cut(x: Range, to: Range) -> Range
-    ensures { λ r. ⌜ r ≡ cut x to ⌝ }
+fn later(x: u64, y: u64) -> u64
+    ensures { λ r. ⌜ r ≡ max x y ⌝ }
 {
-    let left = common(x, to);
-    if is_empty(left) { x } else { left }
+    if x < y { y } else { x }
+}
+
+fn earlier(x: u64, y: u64) -> u64
+    ensures { λ r. ⌜ r ≡ min x y ⌝ }
+{
+    if x < y { x } else { y }
+}
+
+// A range is cut to what lies from one whole number to another, both raised: "if any cut would leave an empty range, none of
+// that cut is made".
+pub(crate) fn cut_between(x: Range, from: u64, to: u64) -> Range
+    ensures { λ r. ⌜ r ≡ cut x (between (subℕ from modulus) (subℕ to modulus)) ⌝ }
+{
+    let lowest = later(WORDS + x.low as u64, from);
+    let highest = earlier(WORDS + x.high as u64, to);
+    if highest < lowest {
+        return x;
+    }
+    Range {
+        low: (lowest - WORDS) as u32,
+        high: (highest - WORDS) as u32,
+    }
 }
 
 // x is cut to p and y to q, both or none.

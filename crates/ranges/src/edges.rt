@@ -9,7 +9,6 @@ use model::Range;
 use model::Ranges;
 use model::Width;
 ghost use mathlib.Core.Path.{_≡_};
-ghost use Rattle.model.specs.declared.Width.{Width};
 ghost use Rattle.model.specs.Instructions.{loadRange, shape, ruleN, afterNext, afterTaken};
 
 // "0 to 2^(8w) − 1"
@@ -29,14 +28,13 @@ fn load_range(width: Width) -> Range
     }
 }
 
-// "Rule N: after a load or store with imm = 0, b's range is cut to DB to DL."
-fn rule_n(region: Range, b: u8, imm: i32, known: Ranges) -> Ranges
-    ensures { λ r. ⌜ ((w : Width) → r ≡ ruleN region (record { pointer = b; width = w; displacement = imm }) known) ⌝ }
+// "Rule N shall cut b for every imm and width: exact b + imm lies from DB to DL − w + 1."
+fn rule_n(region: Range, b: u8, width: Width, imm: i32, known: Ranges) -> Ranges
+    ensures { λ r. ⌜ r ≡ ruleN region (record { pointer = b; width = width; displacement = imm }) known ⌝ }
 {
-    if imm == 0 {
-        return put(known, b, cuts::cut(range_of(known, b), region));
-    }
-    known
+    let from = sums::end_less(region.low, 0, imm);
+    let to = sums::end_less(region.high, sums::last_byte(width), imm);
+    put(known, b, cuts::cut_between(range_of(known, b), from, to))
 }
 
 // Along the edge to the next index.
@@ -71,11 +69,11 @@ pub fn after_next(region: Range, instruction: Instruction, known: Ranges) -> Ran
         Instruction::Sar { a, amount } => put(known, a, bounds::sar(range_of(known, a), amount)),
         // "A load with a = b keeps the loaded range instead."
         Instruction::Load { a, b, width, imm } => put(
-            rule_n(region, b, imm, known),
+            rule_n(region, b, width, imm, known),
             a,
             load_range(width),
         ),
-        Instruction::Store { b, imm, .. } => rule_n(region, b, imm, known),
+        Instruction::Store { b, width, imm, .. } => rule_n(region, b, width, imm, known),
         Instruction::Jump { .. } => known,
         Instruction::Branch { a, b, test, .. } => cuts::rule_b(test, false, a, b, known),
         Instruction::Check { .. } => known,

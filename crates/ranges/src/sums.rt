@@ -1,11 +1,13 @@
 // Rule W: the ranges of sums and differences, from exact ends. An exact end is between -2^32 and 2^33; it is kept as a u64, raised
 // by 2^32, so that none is negative.
 use model::Range;
+use model::Width;
 ghost use mathlib.Core.Path.{_≡_};
-ghost use Prim.Native.Nat.{_<_};
-ghost use lib.IntN.{pos, _+ℤ_, subℕ};
+ghost use Prim.Native.Nat.{_-_, _<_};
+ghost use lib.IntN.{pos, _+ℤ_, _-ℤ_, subℕ};
 ghost use Rattle.model.specs.Words.{modulus};
 ghost use Rattle.model.specs.Ranges.{ruleW};
+ghost use Rattle.model.specs.Instructions.{bytesOf};
 
 // 2^32, by which ends are raised.
 pub const WORDS: u64 = 0x1_0000_0000;
@@ -49,6 +51,24 @@ pub fn displaced_end(end: u32, imm: i32) -> u64
     ensures { λ r. ⌜ (subℕ r modulus ≡ pos end +ℤ imm) × (r < 0x3_0000_0000) ⌝ }
 {
     ((end as i64) + (imm as i64) + RAISE) as u64
+}
+
+// How far the last byte of an access lies behind its first.
+pub fn last_byte(width: Width) -> u8
+    ensures { λ r. ⌜ r ≡ bytesOf width - 1 ⌝ }
+{
+    match width {
+        Width::One => 0,
+        Width::Two => 1,
+        Width::Four => 3,
+    }
+}
+
+// An end less some bytes and a signed displacement, raised.
+pub(crate) fn end_less(end: u32, bytes: u8, imm: i32) -> u64
+    ensures { λ r. ⌜ subℕ r modulus ≡ subℕ end bytes -ℤ imm ⌝ }
+{
+    WORDS + WORDS + end as u64 - bytes as u64 - displaced_end(0, imm)
 }
 
 // add: "rule W on the two sums of ends"

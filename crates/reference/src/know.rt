@@ -128,11 +128,32 @@ fn loaded(w: u32) -> Span {
     }
 }
 
-// Rule N's cut.
-fn reached(y: Span, l: Layout) -> Span {
-    let lo = most(y.lo, l.base);
-    let hi = least(y.hi, last(l));
-    if hi < lo { y } else { Span { lo, hi } }
+// Rule N's cut as ticket 1 of document 02 has it, none where it would be empty: all w bytes from exact b + imm on lie in
+// the region. The ends are compared as sums with imm, so that none wraps.
+fn reached(i: Ins, y: Span, l: Layout) -> Span {
+    let imm = raised(i.imm);
+    let w = wide(i.w);
+    let floor = 4294967296 + wide(l.base);
+    let end = floor + wide(l.size);
+    let lowest = wide(y.lo) + imm;
+    let highest = wide(y.hi) + imm + w;
+    if highest < floor + w {
+        return y;
+    }
+    if end < lowest + w {
+        return y;
+    }
+    let lo = if lowest < floor {
+        low(floor - imm)
+    } else {
+        y.lo
+    };
+    let hi = if end < highest {
+        low(end - w - imm)
+    } else {
+        y.hi
+    };
+    Span { lo, hi }
 }
 
 // The range after an instruction with opcode 1 to 9, from those of a and b.
@@ -214,21 +235,20 @@ fn untaken(i: Ins, x: Span, y: Span) -> Change {
 
 // The change along the edge to the next index.
 pub(crate) fn after(i: Ins, x: Span, y: Span, l: Layout) -> Change {
-    let b = if i.imm == 0 { i.b } else { 8 };
     let op = i.op;
     match op {
         0 | 12 | 14 | 15 => unchanged(x, y),
         10 => Change {
             a: i.a,
             x: loaded(i.w),
-            b,
-            y: reached(y, l),
+            b: i.b,
+            y: reached(i, y, l),
         },
         11 => Change {
             a: 8,
             x,
-            b,
-            y: reached(y, l),
+            b: i.b,
+            y: reached(i, y, l),
         },
         13 => untaken(i, x, y),
         _ => Change {

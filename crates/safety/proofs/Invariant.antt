@@ -17,16 +17,15 @@ use Rattle.model.specs.Program.{Program, targetAt, isTarget, isIndirect}
 use Rattle.model.specs.Instructions.{reg, afterNext}
 use Rattle.model.specs.Ranges.{regionRange}
 use Rattle.model.specs.Step.{shapeAt}
-use Rattle.model.specs.File.{byteAt, codeStart, codeIn, targetsIn, programOf, programIn}
+use Rattle.model.specs.File.{byteAt, programOf, programIn}
 use Rattle.model.specs.Judgement.{traitsAt, startingRanges, claimOr, knownAt, firstBroken}
 use Rattle.model.specs.Rules.{LayoutKept, LiesWithin, FileKept, IndexKept, KeepsEveryRule}
 use Rattle.model.specs.Safety.{EightWords, ClaimKept}
+use Rattle.model.specs.Accuracy.{Within}
 use Rattle.model.proofs.Accepted.{accepted-iff}
-use Rattle.model.proofs.Stretches.{value-bytes}
 use Rattle.model.proofs.Targets.{TargetFacts, target-facts}
-use Rattle.model.proofs.Registers.{Within}
-use Rattle.model.proofs.Sound.{Sound, code-sound}
-use Rattle.model.proofs.Accuracy.{NextAccurate, TakenAccurate}
+use Rattle.model.proofs.Sound.{Sound}
+use Rattle.model.proofs.Accuracy.{NextAccurate, TakenAccurate, file-sound}
 
 -- what holds before each step
 pub record Invariant (p : Program) (m : Machine) : Type 0 where
@@ -52,7 +51,7 @@ accepted-file file bytes passes =
     record {
       file-rules = kept .file-rules;
       layout = kept .file-rules .holds .layout;
-      sound = code-sound (codeIn file) (value-bytes file codeStart 2 bytes) (kept .file-rules .holds .layout) (targetsIn file);
+      sound = file-sound file bytes (kept .file-rules);
       target = target-facts (kept .file-rules .holds);
       rules = kept .code-rules;
     }

@@ -15,7 +15,7 @@ use Rattle.model.specs.Quantifiers.{allBelow, anyBelow}
 use Rattle.model.specs.Words.{wrap, signed, readBytes}
 use Rattle.model.specs.Obligations.{Fault, firstFault, eachFrom}
 use Rattle.model.specs.Answers.{Judgement}
-use Rattle.model.specs.Ranges.{ruleW, guardRange, cut, liesWithin}
+use Rattle.model.specs.Ranges.{ruleW, guardRange, cut, between, liesWithin}
 use Rattle.model.specs.Program.{Program, targetAt}
 use Rattle.model.specs.Instructions.{guarded, shape, ruleN, afterNext, afterTaken}
 use Rattle.model.specs.Step.{inRegion, inZones, accessing, effect, addressesFrom, settle, stepOf, step}
@@ -37,7 +37,7 @@ fileFault file = firstFault (readable file)
 
 -- refusals 8 to 13
 unfoldable codeFault : Program → Option Fault
-unfolding verified atIndex beforeNext isReachable isChecked accessContained isContained jumpsToTarget staysInside takenKept nextKept liesWithin knownAt targetAt shape afterNext afterTaken ruleN ruleW guardRange cut
+unfolding verified atIndex beforeNext isReachable isChecked accessContained isContained jumpsToTarget staysInside takenKept nextKept liesWithin knownAt targetAt shape afterNext afterTaken ruleN ruleW guardRange cut between
 codeFault p = firstFault (verified p)
 
 -- the whole answer

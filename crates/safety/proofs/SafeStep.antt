@@ -20,11 +20,11 @@ use Rattle.model.specs.File.{programIn}
 use Rattle.model.specs.Judgement.{knownAt}
 use Rattle.model.specs.Rules.{LayoutKept}
 use Rattle.model.specs.Safety.{Bytes, InZones, Permitted, StepSafe}
+use Rattle.model.specs.Accuracy.{Within, AccessAllowed}
 use Rattle.model.proofs.Tests.{by-cond}
-use Rattle.model.proofs.Registers.{Within}
 use Rattle.model.proofs.Containment.{contained-in-zones, reached-in-zones}
 use Rattle.model.proofs.Sound.{SoundAccess, Sound}
-use Rattle.model.proofs.Accuracy.{AccessAllowed, Accurate, effect-accurate}
+use Rattle.model.proofs.Accuracy.{Accurate, effect-accurate}
 use Rattle.safety.proofs.Invariant.{Invariant, Accepted, claim-kept, at-indirect, at-named, at-next}
 
 -- what holds after a step
@@ -92,7 +92,8 @@ module _ {file : List ℕ} (accepted : Accepted file) {m : Machine} {bs : List �
     settle-kept : (e : Effect) → Accurate (p .layout) (p .targets) instruction known (m .registers) e
         → StepKept p (settle p m bs reached e)
     unfolding settle
-    settle-kept (goesOn rs′ bs′) next =
+    settle-kept (goesOn rs′ bs′) accurate =
+        let next = accurate allowed in
         let (inside, after) = at-next accepted invariant rs′ bs′ next in
         by-cond (StepKept p) (ltb (m .pc + 1) (length (p .code)))
         (λ _. moves-kept rs′ bs′ nowhere (m .pc + 1) tt after (next .bytes))

@@ -13,7 +13,6 @@ use mir.ValLaws.{toZ-ofZ}
 use Rattle.model.specs.declared.Layout.{Layout}
 use Rattle.model.specs.declared.Range.{Range}
 use Rattle.model.specs.declared.Width.{Width}
-use Rattle.model.specs.declared.Width.the-variants.{One, Two, Four}
 use Rattle.model.specs.Words.{modulus}
 use Rattle.model.specs.Ranges.{range, regionRange}
 use Rattle.model.specs.Instructions.{bytesOf}
@@ -21,6 +20,7 @@ use Rattle.model.specs.Judgement.{isContained}
 use Rattle.model.specs.Rules.{LayoutKept}
 use Rattle.model.proofs.Tests.{by-cond}
 use Rattle.model.proofs.Values.{some-size}
+use Rattle.model.proofs.Containment.{few-bytes}
 
 -- DB to DL, with the size less one added to the base
 pub region-ends : {l : Layout} → LayoutKept l → range (l .base) (l .base + (l .size - 1)) ≡ regionRange l
@@ -66,12 +66,7 @@ pub record Ends (w : Width) (imm : ℤ) (x : Range) (lowest highest last : ℕ) 
 
 -- an access moves four bytes or fewer
 pub last-small : {w : Width} {imm : ℤ} {x : Range} {lowest highest last : ℕ} → Ends w imm x lowest highest last → last < 4
-last-small {w = w} ends = rw (ends .is-last) (by-width w)
-  where
-    by-width : (v : Width) → bytesOf v - 1 < 4
-    by-width One = omega arith
-    by-width Two = omega arith
-    by-width Four = omega arith
+last-small {w = w} ends = omega (arith, ends .is-last, few-bytes w)
 
 module _ {l : Layout} (kept : LayoutKept l) {w : Width} {imm : ℤ} (fit : SFits w32 imm)
     {x : Range} {lowest highest last : ℕ} (ends : Ends w imm x lowest highest last) where

@@ -26,7 +26,7 @@ ghost use Rattle.model.specs.Quantifiers.{anyOf};
 ghost use Rattle.model.specs.Obligations.{firstFault};
 ghost use Rattle.model.specs.Ranges.{liesWithin};
 ghost use Rattle.model.specs.Program.{Program, codeAt, targetAt, isTarget};
-ghost use Rattle.model.specs.Instructions.{bytesOf, shape, traits};
+ghost use Rattle.model.specs.Instructions.{shape, traits};
 ghost use Rattle.model.specs.File.{claimIn, programOf};
 ghost use Rattle.model.specs.Judgement.{traitsAt, knownAt, nextRanges, checkedBefore, isReachable, isChecked, isContained, accessContained, jumpsToTarget, staysInside, takenKept, nextKept, beforeNext};
 ghost use Rattle.model.specs.Rules.{LayoutKept};
@@ -111,24 +111,13 @@ fn is_checked(code: &[u8], i: u32, instruction: Instruction, marked: bool) -> bo
     }
 }
 
-// How far the last byte of an access lies behind its first.
-fn last_byte(width: Width) -> u64
-    ensures { λ r. ⌜ r ≡ bytesOf width - 1 ⌝ }
-{
-    match width {
-        Width::One => 0,
-        Width::Two => 1,
-        Width::Four => 3,
-    }
-}
-
 // An access through a pointer of range x stays in the region and its guard zones, by exact sums.
 fn is_contained(layout: Layout, x: Range, width: Width, imm: i32) -> bool
     requires { ⌜ LayoutKept layout ⌝ }
     ensures { λ r. ⌜ r ≡ isContained layout x width imm ⌝ }
 {
     let lowest = sums::displaced_end(x.low, imm);
-    let highest = sums::displaced_end(x.high, imm) + last_byte(width);
+    let highest = sums::displaced_end(x.high, imm) + sums::last_byte(width) as u64;
     let base = layout.base as u64;
     let size = layout.size as u64;
     let guard = layout.guard as u64;

@@ -2,9 +2,9 @@
 
 use crate::difference::hexadecimal;
 use crate::tally::Tally;
-use modules::generate::{generate, Generated, Origin};
+use modules::generate::{generate, Generated};
 use modules::random::Random;
-use sides::Side;
+use sides::{verify_by_earlier_rule_n, Side, Verdict};
 
 pub fn compare_file(seed: u64, case: u64, tally: &mut Tally) -> Result<(), String> {
     let mut random = Random::for_case(seed, case);
@@ -19,11 +19,22 @@ fn judge(generated: &Generated, tally: &mut Tally) -> Result<(), String> {
     let file = &generated.file;
     let read = same("read", Side::BOTH.map(|side| side.read(file)))?;
     let verified = same("verify", Side::BOTH.map(|side| side.verify(file)))?;
-    if generated.origin == Origin::Valid && verified.is_err() {
-        return Err(format!("made to be accepted, but refused: {verified:?}"));
-    }
+    let earlier = verify_by_earlier_rule_n(file);
+    as_made(generated.origin.accepted(), verified)?;
+    as_made(generated.origin.accepted_earlier(), earlier)
+        .map_err(|what| format!("by rule N as it was: {what}"))?;
     tally.count_module(generated.origin, read, verified);
+    tally.count_turn(generated.origin, verified, earlier);
     Ok(())
+}
+
+/// A module that was made to be accepted, or to be refused, must be so.
+fn as_made(accepted: Option<bool>, verified: Verdict) -> Result<(), String> {
+    match (accepted, verified) {
+        (Some(true), Err(_)) => Err(format!("made to be accepted, but {verified:?}")),
+        (Some(false), Ok(_)) => Err(format!("made to be refused, but {verified:?}")),
+        _ => Ok(()),
+    }
 }
 
 /// The common answer, of both sides' answers.

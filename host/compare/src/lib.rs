@@ -6,6 +6,7 @@ mod files;
 mod lists;
 mod plan;
 mod tally;
+mod turns;
 
 pub use difference::Difference;
 pub use tally::Tally;

@@ -16,10 +16,13 @@ const KNOWN_TO_END: u32 = 5000;
 pub fn compare_list(seed: u64, case: u64, tally: &mut Tally) -> Result<(), String> {
     // Other numbers than those of the modules' cases.
     let mut random = Random::for_case(seed ^ 0x6c69_7374, case);
-    let origin = match random.below(20) {
-        0..=11 => Origin::Valid,
-        12..=17 => Origin::Near,
-        _ => Origin::Damaged,
+    let origin = match random.below(50) {
+        0..=27 => Origin::Valid,
+        28..=41 => Origin::Near,
+        42..=45 => Origin::Damaged,
+        46 | 47 => Origin::Narrowed,
+        48 => Origin::EmptyN,
+        _ => Origin::EmptyB,
     };
     let generated = generate_from(origin, &mut random);
     let mut list = List::new(&mut random, &generated);

@@ -1,5 +1,5 @@
 //! `compare [SEED [MODULES [LISTS]]]`: compares the proved library with the hand-written one, and fails if anything
-//! differs or if a refusal or an ending never occurred.
+//! differs or if a refusal, an ending or a wanted turn of a verdict never occurred.
 
 use compare::{compare, SEED};
 use std::env;
@@ -24,7 +24,7 @@ fn main() -> ExitCode {
     print!("{tally}");
     let missing = tally.missing();
     if missing.is_empty() {
-        println!("no difference; every refusal and every ending occurred");
+        println!("no difference; every refusal, every ending and every wanted turn occurred");
         ExitCode::SUCCESS
     } else {
         println!("NEVER OCCURRED: {}", missing.join(", "));

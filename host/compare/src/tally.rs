@@ -1,6 +1,8 @@
-//! How often each refusal and each ending occurred, so that nothing is believed compared that never happened.
+//! How often each refusal, each ending and each turn of a verdict occurred, so that nothing is believed compared that
+//! never happened.
 
 use crate::counts::Counts;
+use crate::turns::Turns;
 use madsjirn::{Ending, Rule};
 use modules::generate::Origin;
 use sides::{Ran, Read, Refused, Verdict};
@@ -10,7 +12,8 @@ use std::fmt;
 #[derive(Default)]
 pub struct Tally {
     /// Modules by origin, in the order of `Origin::ALL`, and how many of them were accepted.
-    modules: [(u64, u64); 3],
+    modules: [(u64, u64); Origin::ALL.len()],
+    turns: Turns,
     /// Refusals by number; 0 counts what was not refused.
     read: Counts,
     verify: Counts,
@@ -33,6 +36,11 @@ impl Tally {
         self.verify.count(number(verified.err()));
     }
 
+    /// Counts a verdict that is another by rule N as it was.
+    pub fn count_turn(&mut self, origin: Origin, verified: Verdict, earlier: Verdict) {
+        self.turns.count(origin, verified, earlier);
+    }
+
     pub fn count_list(&mut self) {
         self.lists += 1;
     }
@@ -48,7 +56,7 @@ impl Tally {
         }
     }
 
-    /// The refusals and endings that never occurred.
+    /// The refusals, endings and turns that never occurred.
     pub fn missing(&self) -> Vec<String> {
         let refusals = Rule::ALL.into_iter().filter(|rule| {
             let times = self.refusals(rule.number());
@@ -59,6 +67,7 @@ impl Tally {
         refusals
             .map(|rule| rule.to_string())
             .chain(endings.map(|ending| ending.to_string()))
+            .chain(self.turns.missing())
             .collect()
     }
 
@@ -157,6 +166,7 @@ fn ending_name(number: u32) -> String {
 impl fmt::Display for Tally {
     fn fmt(&self, out: &mut fmt::Formatter<'_>) -> fmt::Result {
         self.write_modules(out)?;
+        self.turns.fmt(out)?;
         self.write_lists(out)?;
         self.write_refusals(out)?;
         self.write_endings(out)

@@ -83,8 +83,18 @@ pub fn read(file: &[u8]) -> Result<Module, Refusal> {
 
 /// Judges the file's form and its claims: refusals 1 to 13.
 pub fn verify(file: &[u8]) -> Result<Accepted, Refusal> {
+    judge::<false>(file)
+}
+
+/// Judges as [`verify`] does, but with rule N as it was before document 02's ticket 1. Kept for the comparison alone,
+/// which says how many modules' verdicts depend on the ticket: those must occur, or the new rule is not compared.
+pub fn verify_by_earlier_rule_n(file: &[u8]) -> Result<Accepted, Refusal> {
+    judge::<true>(file)
+}
+
+fn judge<const EARLIER: bool>(file: &[u8]) -> Result<Accepted, Refusal> {
     let parts = reader::parts(file)?;
-    verifier::verify(&parts)?;
+    verifier::verify::<EARLIER>(&parts)?;
     Ok(parts.accepted())
 }
 

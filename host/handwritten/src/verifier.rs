@@ -87,21 +87,42 @@ fn wrap(low: i64, high: i64) -> Range {
     }
 }
 
-/// The common part, or the first range if there is none.
-fn cut(first: Range, by: Range) -> Range {
-    let low = low(first).max(low(by));
-    let high = high(first).min(high(by));
+/// The part of a range from `least` to `most`, or the range itself if there is none. The ends are whole numbers, also
+/// ones that are no word.
+#[inline(always)]
+fn cut(whole: Range, least: i64, most: i64) -> Range {
+    let low = i64::from(low(whole)).max(least);
+    let high = i64::from(high(whole)).min(most);
     if low <= high {
-        range(low, high)
+        range(low as u32, high as u32)
     } else {
-        first
+        whole
+    }
+}
+
+/// The common part, or the first range if there is none.
+fn common(first: Range, other: Range) -> Range {
+    cut(first, low(other).into(), high(other).into())
+}
+
+/// Rule N: an access of `w` bytes at b + imm that isn't trapped begins from DB to DL - w + 1.
+/// `EARLIER` chooses the rule as it was: DB to DL, and only where imm is 0.
+#[inline(always)]
+fn rule_n<const EARLIER: bool>(b: Range, imm: i64, w: u8, first: u32, last: u32) -> Range {
+    let (least, most) = (i64::from(first) - imm, i64::from(last) - imm);
+    if !EARLIER {
+        cut(b, least, most - i64::from(w) + 1)
+    } else if imm == 0 {
+        cut(b, least, most)
+    } else {
+        b
     }
 }
 
 /// The operands' ranges where the branch is taken.
 fn taken(w: u8, a: Range, b: Range) -> (Range, Range) {
     match w {
-        0 => (cut(a, b), cut(b, a)),
+        0 => (common(a, b), common(b, a)),
         // Both cuts are empty or neither is.
         1 if low(a) < high(b) => (
             range(low(a), high(a).min(high(b) - 1)),
@@ -131,9 +152,10 @@ fn refuse<T>(number: u32, place: usize) -> Result<T, Refusal> {
     })
 }
 
+/// Refusals 8 to 13, with the rule N that `EARLIER` chooses.
 // Apart from its caller, as `machine::run` is.
 #[inline(never)]
-pub(crate) fn verify(parts: &Parts) -> Result<(), Refusal> {
+pub(crate) fn verify<const EARLIER: bool>(parts: &Parts) -> Result<(), Refusal> {
     let Layout { base, size, guard } = parts.layout;
     let last = base + (size - 1);
     let region = range(base, last);
@@ -215,9 +237,7 @@ pub(crate) fn verify(parts: &Parts) -> Result<(), Refusal> {
                     if !reaches(ranges[b]) {
                         return refuse(10, i);
                     }
-                    if imm == 0 {
-                        ranges[b] = cut(ranges[b], region);
-                    }
+                    ranges[b] = rule_n::<EARLIER>(ranges[b], signed, w, base, last);
                     // After the cut, so that a load into b keeps the loaded range.
                     ranges[a] = range(0, u32::MAX >> ((32 - 8 * u32::from(w)) & 31));
                 }
@@ -225,9 +245,7 @@ pub(crate) fn verify(parts: &Parts) -> Result<(), Refusal> {
                     if !reaches(ranges[b]) {
                         return refuse(10, i);
                     }
-                    if imm == 0 {
-                        ranges[b] = cut(ranges[b], region);
-                    }
+                    ranges[b] = rule_n::<EARLIER>(ranges[b], signed, w, base, last);
                 }
                 13 => {
                     let Some(aim) = lookup.find(imm) else {

@@ -25,7 +25,7 @@ fn page() -> String {
 
 #[test]
 fn examples_are_judged_as_the_page_says() {
-    assert_eq!(judge_page(&page()).len(), 4, "modules on the page");
+    assert_eq!(judge_page(&page()).len(), 5, "modules on the page");
 }
 
 #[test]
@@ -53,12 +53,15 @@ fn each_refusal_and_each_ending_has_its_row() {
 #[test]
 fn runs_end_as_the_page_says() {
     let modules = judge_page(&page());
-    let [of_the_loop, of_the_counted, ..] = &modules[..] else {
+    let [of_the_loop, of_two_samples, of_the_counted, ..] = &modules[..] else {
         panic!("too few modules on the page");
     };
     assert_eq!(*of_the_loop, bytes_of("crates/gate/stdin"));
     let (run, machine) = run_of(of_the_loop);
     assert_eq!((run.ending, run.steps), (Ending::Trapped, 3_074));
+    assert_eq!((machine.pc, machine.registers[1]), (1, 0x2000_1000));
+    let (run, machine) = run_of(of_two_samples);
+    assert_eq!((run.ending, run.steps), (Ending::Trapped, 4_098));
     assert_eq!((machine.pc, machine.registers[1]), (1, 0x2000_1000));
     let (run, _) = run_of(of_the_counted);
     assert_eq!((run.ending, run.steps), (Ending::Halted, 50));

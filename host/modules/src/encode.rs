@@ -17,12 +17,12 @@ impl Layout {
     };
 
     /// The region's first address, DB.
-    pub fn first(self) -> u32 {
+    pub const fn first(self) -> u32 {
         self.base
     }
 
     /// The region's last address, DL.
-    pub fn last(self) -> u32 {
+    pub const fn last(self) -> u32 {
         self.base.wrapping_add(self.size.wrapping_sub(1))
     }
 

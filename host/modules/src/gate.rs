@@ -1,8 +1,9 @@
-//! Files for the gate program, each with the line that it must print. The first are document 01's known outcomes,
-//! the others break the rules of its table one by one.
+//! Files for the gate program, each with the line that it must print. The first are document 01's known outcomes, then
+//! those of document 02's ticket 1; the others break the rules of document 01's table one by one.
 
 use crate::assembler::{addi, halt, jump, jumpr};
 use crate::encode::Module;
+use crate::rule_n::turned;
 use crate::samples::{document_loop, largest};
 
 /// Standard input, and what standard output must then be, but for the newline.
@@ -14,6 +15,7 @@ pub struct Case {
 
 pub fn cases() -> Vec<Case> {
     let mut cases = known_outcomes();
+    cases.extend(turned().map(|one| case(one.name, one.module.to_bytes(), one.now)));
     cases.extend(refused_fields());
     cases.extend(trailing_bytes());
     cases.extend(refused_tables());

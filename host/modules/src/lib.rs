@@ -6,4 +6,5 @@ pub mod gate;
 pub mod generate;
 pub mod random;
 mod ranges;
+pub mod rule_n;
 pub mod samples;

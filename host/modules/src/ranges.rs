@@ -1,4 +1,5 @@
-//! The ranges that the generator follows, so that it knows what it may write next. Rules W, N and B of document 01.
+//! The ranges that the generator follows, so that it knows what it may write next. Rules W and B of document 01, and
+//! rule N of document 02's ticket 1.
 
 use crate::encode::{op, test, Instruction, Layout, Range, ANYTHING};
 
@@ -31,18 +32,50 @@ fn rule_w(lowest: i64, highest: i64) -> Range {
     }
 }
 
+/// The lowest and the highest address at which so many bytes begin that are all in the region.
+pub fn begins(layout: Layout, width: u8) -> (i64, i64) {
+    let last = i64::from(layout.last()) + 1 - i64::from(width);
+    (layout.first().into(), last)
+}
+
+/// Which rule N is followed. The earlier one is for modules whose verdict the ticket turns.
+#[derive(Clone, Copy)]
+pub enum RuleN {
+    /// An access that isn't trapped begins where all its bytes are in the region.
+    Now,
+    /// As it was: a pointer is in the region, where the displacement is 0.
+    Earlier,
+}
+
+impl RuleN {
+    /// The pointer's range after an access that moves `width` bytes.
+    fn after(self, layout: Layout, pointer: Range, width: u8, displacement: i64) -> Range {
+        let (lowest, highest) = match self {
+            RuleN::Now => begins(layout, width),
+            RuleN::Earlier if displacement == 0 => begins(layout, 1),
+            RuleN::Earlier => return pointer,
+        };
+        let to = (lowest - displacement, highest - displacement);
+        cut(pointer, to).unwrap_or(pointer)
+    }
+}
+
 /// The displacements that keep rule 10 for a width and a pointer's range, lowest and highest.
 pub fn displacements(layout: Layout, pointer: Range, width: u8) -> Option<(i32, i32)> {
     let guard = i64::from(layout.guard);
-    let lowest = i64::from(layout.first()) - guard - i64::from(pointer.0);
-    let highest = i64::from(layout.last()) + guard + 1 - i64::from(width) - i64::from(pointer.1);
-    let lowest = lowest.max(i32::MIN.into());
-    let highest = highest.min(i32::MAX.into());
+    let (first, last) = begins(layout, width);
+    let lowest = (first - guard - i64::from(pointer.0)).max(i32::MIN.into());
+    let highest = (last + guard - i64::from(pointer.1)).min(i32::MAX.into());
     (lowest <= highest).then_some((lowest as i32, highest as i32))
 }
 
 /// The ranges after an instruction that goes to the next index and is no branch.
-pub fn after(layout: Layout, mut ranges: Ranges, instruction: Instruction) -> Ranges {
+pub fn after(
+    rule_n: RuleN,
+    layout: Layout,
+    mut ranges: Ranges,
+    instruction: Instruction,
+) -> Ranges {
     let Instruction { op, w, imm, .. } = instruction;
     let (a, b) = (usize::from(instruction.a), usize::from(instruction.b));
     let (lowest, highest) = (i64::from(ranges[a].0), i64::from(ranges[a].1));
@@ -59,10 +92,7 @@ pub fn after(layout: Layout, mut ranges: Ranges, instruction: Instruction) -> Ra
         op::SHR => ranges[a] = (ranges[a].0 >> w, ranges[a].1 >> w),
         op::SAR => ranges[a] = after_sar(ranges[a], w),
         op::LOAD | op::STORE => {
-            if imm == 0 {
-                let region = (layout.first().into(), layout.last().into());
-                ranges[b] = cut(ranges[b], region).unwrap_or(ranges[b]);
-            }
+            ranges[b] = rule_n.after(layout, ranges[b], w, displacement);
             if op == op::LOAD {
                 ranges[a] = (0, u32::MAX >> (32 - 8 * w));
             }
@@ -83,27 +113,30 @@ fn after_sar(range: Range, w: u8) -> Range {
 
 /// The ranges after a branch, taken and not taken.
 pub fn after_branch(ranges: Ranges, branch: Instruction) -> (Ranges, Ranges) {
+    let (taken, passed) = cuts_of_branch(ranges, branch);
+    (taken.unwrap_or(ranges), passed.unwrap_or(ranges))
+}
+
+/// The ranges that rule B cuts to, taken and not taken: none where the cut is empty and so not made.
+pub fn cuts_of_branch(ranges: Ranges, branch: Instruction) -> (Option<Ranges>, Option<Ranges>) {
     let (a, b) = (usize::from(branch.a), usize::from(branch.b));
     let first = (i64::from(ranges[a].0), i64::from(ranges[a].1));
     let second = (i64::from(ranges[b].0), i64::from(ranges[b].1));
     if a == b {
-        return (ranges, ranges);
+        return (Some(ranges), Some(ranges));
     }
-    let both_cut = |to_a, to_b| match (cut(ranges[a], to_a), cut(ranges[b], to_b)) {
-        (Some(cut_a), Some(cut_b)) => {
-            let mut after = ranges;
-            (after[a], after[b]) = (cut_a, cut_b);
-            after
-        }
-        _ => ranges,
+    let both_cut = |to_a, to_b| {
+        let mut after = ranges;
+        (after[a], after[b]) = (cut(ranges[a], to_a)?, cut(ranges[b], to_b)?);
+        Some(after)
     };
     const TOP: i64 = u32::MAX as i64;
     match branch.w {
-        test::EQUAL => (both_cut(second, first), ranges),
+        test::EQUAL => (both_cut(second, first), Some(ranges)),
         test::BELOW => (
             both_cut((0, second.1 - 1), (first.0 + 1, TOP)),
             both_cut((second.0, TOP), (0, first.1)),
         ),
-        _ => (ranges, ranges),
+        _ => (Some(ranges), Some(ranges)),
     }
 }

@@ -1,7 +1,7 @@
 //! The hand-written implementation.
 
 use crate::{ending, Machine, Ran, Read, Refused, Verdict};
-use handwritten::{Ending, Module, Refusal};
+use handwritten::{Accepted, Ending, Module, Refusal};
 
 fn refused(refusal: Refusal) -> Refused {
     (refusal.number, refusal.place)
@@ -31,7 +31,17 @@ pub fn read(file: &[u8]) -> Read {
 
 #[inline]
 pub fn verify(file: &[u8]) -> Verdict {
-    let accepted = handwritten::verify(file).map_err(refused)?;
+    verdict(handwritten::verify(file))
+}
+
+/// The verdict by rule N as it was before document 02's ticket 1: what the ticket turns is told by it.
+pub fn verify_by_earlier_rule_n(file: &[u8]) -> Verdict {
+    verdict(handwritten::verify_by_earlier_rule_n(file))
+}
+
+#[inline]
+fn verdict(verified: Result<Accepted, Refusal>) -> Verdict {
+    let accepted = verified.map_err(refused)?;
     Ok([accepted.instructions, accepted.targets])
 }
 

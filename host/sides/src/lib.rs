@@ -4,6 +4,8 @@
 mod hand_written;
 mod proved;
 
+pub use hand_written::verify_by_earlier_rule_n;
+
 /// Number and place of a refusal.
 pub type Refused = (u32, u32);
 

@@ -4,7 +4,7 @@ use super::claims::Claims;
 use crate::assembler::*;
 use crate::encode::{op, Instruction, Layout, ANYTHING};
 use crate::random::Random;
-use crate::ranges::{after, after_branch, covers, displacements, Ranges};
+use crate::ranges::{after, after_branch, covers, displacements, Ranges, RuleN};
 
 /// A block under construction, with the ranges after what it has.
 pub struct Block<'a> {
@@ -37,7 +37,7 @@ impl Block<'_> {
         if instruction.op == op::BRANCH {
             after_branch(self.ranges, instruction).1
         } else {
-            after(self.layout, self.ranges, instruction)
+            after(RuleN::Now, self.layout, self.ranges, instruction)
         }
     }
 }
@@ -45,18 +45,18 @@ impl Block<'_> {
 /// An instruction that keeps the rules after what the block has.
 pub fn instruction(random: &mut Random, block: &mut Block) -> Instruction {
     match random.below(100) {
-        0..=49 => arithmetic(random, block),
+        0..=49 => arithmetic(random, &block.ranges),
         50..=74 => access(random, block),
         75..=96 => some_branch(random, block),
         _ => check(random.register()),
     }
 }
 
-fn arithmetic(random: &mut Random, block: &Block) -> Instruction {
+pub fn arithmetic(random: &mut Random, ranges: &Ranges) -> Instruction {
     let (a, b) = (random.register(), random.register());
     match random.below(12) {
         0 => set(a, random.word()),
-        1 | 2 => set(a, near_an_end(random, block)),
+        1 | 2 => set(a, near_an_end(random, ranges)),
         3 => copy(a, b),
         4 => add(a, b),
         5 => addi(a, random.word() as i32),
@@ -70,8 +70,8 @@ fn arithmetic(random: &mut Random, block: &Block) -> Instruction {
 }
 
 /// A word at or beside an end of some register's range, where the cuts of rule B become empty.
-fn near_an_end(random: &mut Random, block: &Block) -> u32 {
-    let (lowest, highest) = block.ranges[random.below(8)];
+fn near_an_end(random: &mut Random, ranges: &Ranges) -> u32 {
+    let (lowest, highest) = ranges[random.below(8)];
     let distance = random.within(-1..=1) as i32;
     random
         .pick(&[lowest, highest])

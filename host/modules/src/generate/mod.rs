@@ -1,10 +1,12 @@
-//! Generated files: accepted ones, ones that break a rule by a hair, and damaged ones.
+//! Generated files: accepted ones, ones that break a rule by a hair, damaged ones, and ones whose verdict depends on
+//! document 02's ticket 1.
 
 mod body;
 mod claims;
 mod damage;
 mod near;
 mod shape;
+mod turned;
 mod valid;
 
 use crate::encode::Module;
@@ -19,16 +21,50 @@ pub enum Origin {
     Near,
     /// Bytes flipped, cut, added or moved.
     Damaged,
+    /// Accepted, and refused by rule N as it was: a range is narrower now.
+    Narrowed,
+    /// Refused, and accepted by rule N as it was: a cut of rule N is empty now.
+    EmptyN,
+    /// Refused, and accepted by rule N as it was: a cut of rule B is empty now.
+    EmptyB,
 }
 
 impl Origin {
-    pub const ALL: [Origin; 3] = [Origin::Valid, Origin::Near, Origin::Damaged];
+    pub const ALL: [Origin; 6] = [
+        Origin::Valid,
+        Origin::Near,
+        Origin::Damaged,
+        Origin::Narrowed,
+        Origin::EmptyN,
+        Origin::EmptyB,
+    ];
 
     pub fn name(self) -> &'static str {
         match self {
             Origin::Valid => "valid",
             Origin::Near => "near miss",
             Origin::Damaged => "damaged",
+            Origin::Narrowed => "narrowed",
+            Origin::EmptyN => "empty N",
+            Origin::EmptyB => "empty B",
+        }
+    }
+
+    /// Whether the module is made to be accepted, or to be refused.
+    pub fn accepted(self) -> Option<bool> {
+        match self {
+            Origin::Valid | Origin::Narrowed => Some(true),
+            Origin::EmptyN | Origin::EmptyB => Some(false),
+            Origin::Near | Origin::Damaged => None,
+        }
+    }
+
+    /// The same by rule N as it was.
+    pub fn accepted_earlier(self) -> Option<bool> {
+        match self {
+            Origin::Narrowed => Some(false),
+            Origin::EmptyN | Origin::EmptyB => Some(true),
+            Origin::Valid | Origin::Near | Origin::Damaged => None,
         }
     }
 }
@@ -43,16 +79,25 @@ pub struct Generated {
 
 /// A file of any origin.
 pub fn generate(random: &mut Random) -> Generated {
-    let origin = match random.below(10) {
-        0..=2 => Origin::Valid,
-        3..=7 => Origin::Near,
-        _ => Origin::Damaged,
+    let origin = match random.below(100) {
+        0..=27 => Origin::Valid,
+        28..=74 => Origin::Near,
+        75..=93 => Origin::Damaged,
+        94 | 95 => Origin::Narrowed,
+        96 | 97 => Origin::EmptyN,
+        _ => Origin::EmptyB,
     };
     generate_from(origin, random)
 }
 
 pub fn generate_from(origin: Origin, random: &mut Random) -> Generated {
-    let mut module = valid::module(random);
+    let mut module = match origin {
+        Origin::Valid => valid::module(random),
+        Origin::Near | Origin::Damaged => accepted(random),
+        Origin::Narrowed => turned::narrowed(random),
+        Origin::EmptyN => turned::empty_n(random),
+        Origin::EmptyB => turned::empty_b(random),
+    };
     if origin == Origin::Near {
         near::break_rules(random, &mut module);
     }
@@ -64,5 +109,14 @@ pub fn generate_from(origin: Origin, random: &mut Random) -> Generated {
         origin,
         module,
         file,
+    }
+}
+
+/// An accepted module, now and then one that rule N as it was refuses.
+fn accepted(random: &mut Random) -> Module {
+    if random.chance(8) {
+        turned::narrowed(random)
+    } else {
+        valid::module(random)
     }
 }

@@ -1,4 +1,4 @@
-//! The common answer of both sides.
+//! The common answer of both sides, and a verdict as a line.
 
 use sides::{Machine, Ran, Read, Side, Verdict};
 use std::fmt::Debug;
@@ -15,6 +15,14 @@ pub fn read(file: &[u8]) -> Read {
 
 pub fn verify(file: &[u8]) -> Verdict {
     common(Side::BOTH.map(|side| side.verify(file)))
+}
+
+/// The line that the gate program prints.
+pub fn line(verdict: Verdict) -> String {
+    match verdict {
+        Ok([instructions, targets]) => format!("accepted {instructions} {targets}"),
+        Err((number, place)) => format!("refused {number} {place}"),
+    }
 }
 
 pub fn run(

@@ -1,7 +1,7 @@
 //! The known outcomes of document 01 that are about modules and runs, and the gate program's files, whose lines come
 //! from document 01 too.
 
-use crate::both::{read, run, step, verify};
+use crate::both::{line, read, run, step, verify};
 use modules::assembler::*;
 use modules::encode::{claim, Instruction, Layout, Module, Target, ANYTHING};
 use modules::gate::cases;
@@ -14,16 +14,8 @@ fn straight(code: &[Instruction]) -> Module {
     Module::known(code, &[Target::indirect(0)])
 }
 
-/// The line that the gate program prints.
-fn line(file: &[u8]) -> String {
-    match verify(file) {
-        Ok([instructions, targets]) => format!("accepted {instructions} {targets}"),
-        Err((number, place)) => format!("refused {number} {place}"),
-    }
-}
-
 fn verdict(module: &Module) -> String {
-    line(&module.to_bytes())
+    line(verify(&module.to_bytes()))
 }
 
 /// The answer and the machine of a run in a memory of zeros.
@@ -167,6 +159,6 @@ fn the_loop_changed() {
 #[test]
 fn gate_cases() {
     for case in cases() {
-        assert_eq!(line(&case.file), case.line, "{}", case.name);
+        assert_eq!(line(verify(&case.file)), case.line, "{}", case.name);
     }
 }

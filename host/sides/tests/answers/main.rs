@@ -1,8 +1,9 @@
-//! Exact answers, the same of both sides: document 01's known outcomes, a file for each refusal, each ending, and the
-//! files that the gate program is tried on.
+//! Exact answers, the same of both sides: document 01's known outcomes, what document 02's ticket 1 turns, a file for
+//! each refusal, each ending, and the files that the gate program is tried on.
 
 mod both;
 mod claims;
 mod form;
 mod known;
+mod rule_n;
 mod runs;

@@ -82,19 +82,17 @@ on-load c =
     let clear = c .before .before in
     let arm = clear .before in
     let given = arm .before .instruction10 .given in
-    let width = given .0 .1 .1 .0 in
     let small = arm .known-told10 .given .1 .1 .1 .0 .1 in
     rw
-    (given .1, c .put10 .ensures, c .before .load-range .ensures, clear .rule-n .ensures width, bits-read-back _ small)
+    (given .1, c .put10 .ensures, c .before .load-range .ensures, clear .rule-n .ensures, bits-read-back _ small)
 
 on-store : tie.Need-returns-12
 unfolding shape afterNext
 on-store c =
     let arm = c .before in
     let given = arm .before .instruction11 .given in
-    let width = given .0 .1 .1 .0 in
     let small = arm .known-told11 .given .1 .1 .1 .0 .1 in
-    rw (given .1, c .rule-n2 .ensures width, bits-read-back _ small)
+    rw (given .1, c .rule-n2 .ensures, bits-read-back _ small)
 
 on-branch : tie.Need-returns-14
 unfolding shape afterNext

@@ -1,16 +1,20 @@
--- `ranges::edges::rule_n` meets its contract: by whether the displacement's bits are zero. Assumes nothing.
-use Rattle.ranges.proofs.Displacements.{cut-to-region, not-cut}
+-- `ranges::edges::rule_n` meets its contract: the range is cut between the two ends. Assumes nothing.
+use Rattle.ranges.proofs.Displacements.{bits-read-back, cut-to-pointers}
 use Rattle.ranges.proofs.edges.rule_n.Statement.{statement}
 use Rattle.ranges.proofs.edges.rule_n.Tie as tie
 
-on-zero : tie.Need-returns
-on-zero c =
-    let read = c .before .before in
-    let tested = read .before in
-    cut-to-region _ _ _ _ (tested .before .fits .imm .sfits) (tested .if1 .taken)
-    (read .range-of .ensures) (c .before .cut .ensures) (c .put .ensures)
+returns : tie.Need-returns
+returns c =
+    let narrowed = c .before in
+    let read = narrowed .before in
+    let last = read .before in
+    let width = last .before in
+    let first = width .before in
+    let entry = first .before in
+    let same = bits-read-back (entry .args .imm) (entry .fits .imm .sfits) in
+    cut-to-pointers _ _ _ (entry .args .imm) _
+    (rw same at (first .end-less .ensures)) (width .last-byte .ensures) (rw same at (last .end-less2 .ensures))
+    (read .range-of .ensures) (narrowed .cut-between .ensures) (c .put .ensures)
 
 pub rule-n-spec : {M : Type 1} → statement M
-rule-n-spec =
-    tie.close
-    (tie.spec (λ c κs. tt) (λ c κs. tt) (λ c κs. tt) on-zero (λ c. not-cut _ _ _ _ (c .if1 .left)))
+rule-n-spec = tie.close (tie.spec (λ c κs. tt) (λ c κs. tt) (λ c κs. tt) (λ c κs. tt) (λ c κs. tt) (λ c κs. tt) returns)

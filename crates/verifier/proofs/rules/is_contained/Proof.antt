@@ -32,7 +32,7 @@ pub is-contained-spec : {M : Type 1} → statement M
 is-contained-spec =
     tie.close
     (tie.spec
-    (λ c κs. tt) (λ c κs. tt) (λ c κs. tt) add-highest
+    (λ c κs. tt) (λ c κs. tt) (λ c κs. tt) (λ c. record { fits = omega (arith, last-small (ends-in c)) }) add-highest
     (λ c. omega (arith, c .before .before .before .before .pre .above))
     (λ c. omega (arith, c .before .before .before .before .before .pre .above))
     (λ c. omega (arith, c .before .before .before .before .before .before .pre .above))

@@ -1,6 +1,6 @@
--- `verifier::rules::last_byte` meets its contract, at each width. Assumes nothing.
-use Rattle.verifier.proofs.rules.last_byte.Statement.{statement}
-use Rattle.verifier.proofs.rules.last_byte.Tie as tie
+-- `ranges::sums::last_byte` meets its contract, at each width. Assumes nothing.
+use Rattle.ranges.proofs.sums.last_byte.Statement.{statement}
+use Rattle.ranges.proofs.sums.last_byte.Tie as tie
 
 pub last-byte-spec : {M : Type 1} → statement M
 last-byte-spec =
