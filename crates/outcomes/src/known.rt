@@ -219,17 +219,25 @@ fn runs(words: &[u8], rows: &[[u32; 5]; 8], r: u32) {
     write(b"\n");
 }
 
-pub(crate) fn known() {
+fn known_loop() {
     loop_verdicts(b"the loop", 256, 4);
     loop_verdicts(b"the loop with guard 7", 7, 4);
     loop_verdicts(b"the loop with guard 6", 6, 4);
     loop_verdicts(b"the loop with r1 claimed DB to DL", 256, 0);
     verdicts(b"the empty module", b"");
     runs(b"the loop's run", &LOOP, 1);
+}
+
+fn known_turns() {
     module_verdicts(b"stereo", &STEREO);
     module_verdicts(b"stereo, the right sample only", &RIGHT_ONLY);
     module_verdicts(b"an empty cut of rule N", &EMPTY_N);
     module_verdicts(b"a cut of rule N that empties one of rule B", &EMPTY_B);
     module_verdicts(b"a load whose address wraps", &WRAPPED);
     runs(b"its run", &WRAPPED, 0);
+}
+
+pub(crate) fn known() {
+    known_loop();
+    known_turns();
 }
