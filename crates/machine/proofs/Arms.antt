@@ -13,6 +13,7 @@ use Rattle.model.specs.declared.Ending.the-variants.{Halted, Denied}
 use Rattle.model.specs.declared.Instruction.{Instruction}
 use Rattle.model.specs.declared.Instruction.the-variants.{Halt, Load, Store, Jump, Branch, Check, Jumpr}
 use Rattle.model.specs.declared.Layout.{Layout}
+use Rattle.model.specs.declared.LoadWidth.{LoadWidth}
 use Rattle.model.specs.declared.Machine.{Machine}
 use Rattle.model.specs.declared.Range.{Range}
 use Rattle.model.specs.declared.Ranges.{Ranges}
@@ -51,17 +52,17 @@ module _ {l : Layout} {code targets : List ℕ} {n k pc : ℕ} {bs : List ℕ} (
     unfolding stepOf shape effect
     halted told over = rw (told, over) (ending-settles n m bs Halted (programOf l code targets) [] (program-count (ready .loaded)))
 
-    module _ (a b : ℕ) (w : Width) (imm : ℤ) (at : ℕ) (computed : at ≡ wrap (pos (reg (m .registers) b) +ℤ imm)) where
-      pub loaded : i ≡ Load a b w imm → (rs′ : List ℕ) → LoadPost l n m bs a w at next rs′
+    module _ (a b : ℕ) (imm : ℤ) (at : ℕ) (computed : at ≡ wrap (pos (reg (m .registers) b) +ℤ imm)) where
+      pub loaded : (v : LoadWidth) → i ≡ Load a b v imm → (rs′ : List ℕ) → LoadPost l n m bs a v at next rs′
           → StepPost (stepOf (programOf l code targets) i m bs) next rs′ bs
       unfolding stepOf shape effect programOf
-      loaded told rs′ post =
+      loaded v told rs′ post =
           rw (told, ← computed) (post (programOf l code targets) _ (program-count (ready .loaded)))
 
-      pub stored : i ≡ Store a b w imm → (value : ℕ) (bs′ : List ℕ) → value ≡ reg (m .registers) a
+      pub stored : (w : Width) → i ≡ Store a b w imm → (value : ℕ) (bs′ : List ℕ) → value ≡ reg (m .registers) a
           → StorePost l n (m .pc) bs value w at next bs′ → StepPost (stepOf (programOf l code targets) i m bs) next (m .registers) bs′
       unfolding stepOf shape effect programOf
-      stored told value bs′ read post =
+      stored w told value bs′ read post =
           rw (told, ← computed, ← read) (post (m .registers) (programOf l code targets) _ (program-count (ready .loaded)))
 
     module _ (to : ℕ) (goes : next ≡ jumpOf (firstTargets targets k) to) where

@@ -9,11 +9,12 @@ use lib.Dec.{ltb}
 use Rattle.model.specs.declared.Ending.{Ending}
 use Rattle.model.specs.declared.Ending.the-variants.{Violated}
 use Rattle.model.specs.declared.Layout.{Layout}
+use Rattle.model.specs.declared.LoadWidth.{LoadWidth}
 use Rattle.model.specs.declared.Machine.{Machine}
 use Rattle.model.specs.declared.Width.{Width}
 use Rattle.model.specs.Words.{readBytes, writeBytes}
 use Rattle.model.specs.Program.{Program, isTarget, isIndirect}
-use Rattle.model.specs.Instructions.{bytesOf}
+use Rattle.model.specs.Instructions.{bytesOf, widthRead, carried}
 use Rattle.model.specs.Step.{Effect, goesOn, goesTo, goesVia, ends, accessing, storing, Landing, nowhere, named, viaRegister, stays, moves, settle}
 use Rattle.machine.specs.declared.access.Reach.{Reach}
 use Rattle.machine.specs.declared.access.Reach.the-variants.{Inside}
@@ -99,10 +100,10 @@ module _ (l : Layout) (at : ℕ) (w : Width) (n : ℕ) (m : Machine) (bs : List 
   access-ends is e done over p log count = rw (access-is l at w is done ∙ over) (ending-settles n m bs e p log count)
 
   module _ (offset : ℕ) (inside : reachOf l at w ≡ Inside offset) (next : Next) where
-    pub load-settles : (a value : ℕ) (rs′ : List ℕ) → value ≡ readBytes (bytesOf w) bs offset → AssignPost n m a value next rs′
-        → LoadPost l n m bs a w at next rs′
-    load-settles a value rs′ read assigned p log count =
-        rw (access-is l at w inside) (rw (read, offset-is l at w offset inside) at (assigned bs p log count))
+    pub load-settles : (v : LoadWidth) → w ≡ widthRead v → (a raw value : ℕ) (rs′ : List ℕ) → raw ≡ readBytes (bytesOf w) bs offset
+        → value ≡ carried v raw → AssignPost n m a value next rs′ → LoadPost l n m bs a v at next rs′
+    load-settles v is a raw value rs′ read made assigned p log count =
+        rw (sym is, access-is l at w inside) (rw (made, read, offset-is l at w offset inside) at (assigned bs p log count))
 
     module _ (onward : next ≡ onwardOf n (m .pc)) (value : ℕ) where
       pub store-settles : (to : ℕ) (bs′ : List ℕ) → next ≡ To to → bs′ ≡ writeBytes (bytesOf w) value bs offset

@@ -11,6 +11,7 @@ use Rattle.model.specs.declared.Answer.{Answer}
 use Rattle.model.specs.declared.Ending.{Ending}
 use Rattle.model.specs.declared.Ending.the-variants.{Violated}
 use Rattle.model.specs.declared.Layout.{Layout}
+use Rattle.model.specs.declared.LoadWidth.{LoadWidth}
 use Rattle.model.specs.declared.Machine.{Machine}
 use Rattle.model.specs.declared.Outcome.{Outcome}
 use Rattle.model.specs.declared.Target.{Target}
@@ -69,8 +70,8 @@ abbrev pub AssignPost : ℕ → Machine → ℕ → ℕ → Next → List ℕ �
 AssignPost n m a value next rs′ = (bs : List ℕ) → Settles n m bs (goesOn (set (m .registers) a value) bs) next rs′ bs
 
 -- a load from an address
-abbrev pub LoadPost : Layout → ℕ → Machine → List ℕ → ℕ → Width → ℕ → Next → List ℕ → Type 0
-LoadPost l n m bs a w at next rs′ = Settles n m bs (loading l at w a (m .registers) bs) next rs′ bs
+abbrev pub LoadPost : Layout → ℕ → Machine → List ℕ → ℕ → LoadWidth → ℕ → Next → List ℕ → Type 0
+LoadPost l n m bs a v at next rs′ = Settles n m bs (loading l at v a (m .registers) bs) next rs′ bs
 
 -- a store to an address, whatever the registers are
 abbrev pub StorePost : Layout → ℕ → ℕ → List ℕ → ℕ → Width → ℕ → Next → List ℕ → Type 0

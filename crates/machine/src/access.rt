@@ -1,11 +1,12 @@
 // Access: where the bytes of a load or store lie, and moving them.
 use model::Layout;
+use model::LoadWidth;
 use model::Width;
 ghost use mathlib.Core.Path.{_≡_};
-ghost use Prim.Native.Nat.{_+_, _≤_};
+ghost use Prim.Native.Nat.{_+_, _*_, _^_, _≤_, _<_};
 ghost use lib.ListN.{length};
 ghost use Rattle.model.specs.Words.{readBytes, writeBytes};
-ghost use Rattle.model.specs.Instructions.{bytesOf};
+ghost use Rattle.model.specs.Instructions.{bytesOf, widthRead, carried};
 ghost use Rattle.machine.specs.Core.{reachOf};
 
 // All bytes in the region, at an offset of it; or all in region and guard zones; or not.
@@ -57,12 +58,24 @@ pub(crate) fn reach_of(layout: Layout, address: u32, width: Width) -> Reach
 
 // The number of the bytes at an offset.
 pub(crate) fn read(region: &[u8], at: usize, width: Width) -> u32
-    ensures { λ r. ⌜ r ≡ readBytes (bytesOf width) (now (region .entry)) at ⌝ }
+    ensures { λ r. ⌜ (r ≡ readBytes (bytesOf width) (now (region .entry)) at) × (r < 2 ^ (8 * bytesOf width)) ⌝ }
 {
     match width {
         Width::One => words::bytes::byte_at(region, at) as u32,
         Width::Two => words::bytes::read_u16(region, at) as u32,
         Width::Four => words::bytes::read_u32(region, at),
+    }
+}
+
+// What a load makes of the number that it read.
+pub(crate) fn carry(width: LoadWidth, raw: u32) -> u32
+    requires { ⌜ raw < 2 ^ (8 * bytesOf (widthRead width)) ⌝ }
+    ensures { λ r. ⌜ r ≡ carried width raw ⌝ }
+{
+    match width {
+        LoadWidth::Unsigned { width: _ } => raw,
+        LoadWidth::SignedOne => words::arithmetic::carry_sign(raw as u16, 0x80),
+        LoadWidth::SignedTwo => words::arithmetic::carry_sign(raw as u16, 0x8000),
     }
 }
 

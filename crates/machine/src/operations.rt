@@ -6,6 +6,7 @@ use crate::places::Next;
 use crate::registers::put;
 use model::Ending;
 use model::Layout;
+use model::LoadWidth;
 use model::Test;
 use model::Width;
 ghost use mathlib.Core.Path.{_≡_};
@@ -53,17 +54,18 @@ pub(crate) fn load(
     registers: &mut [u32; 8],
     region: &[u8],
     a: u8,
-    width: Width,
+    width: LoadWidth,
     address: u32,
 ) -> Next
     requires { ⌜ pc < 65536 ⌝ }
     ensures { λ r. ⌜ LoadPost layout n (record { registers = now (registers .entry); pc = pc }) (now (region .entry)) a width address r (now (registers .exit)) ⌝ }
 {
-    let reached = access::reach_of(layout, address, width);
+    let bytes = model::width_read(width);
+    let reached = access::reach_of(layout, address, bytes);
     match reached {
         Reach::Inside { offset } => {
-            let value = access::read(region, offset, width);
-            assign(n, pc, registers, a, value)
+            let raw = access::read(region, offset, bytes);
+            assign(n, pc, registers, a, access::carry(width, raw))
         }
         Reach::Guarded => Next::Ends {
             ending: Ending::Trapped,

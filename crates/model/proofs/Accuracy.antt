@@ -10,18 +10,17 @@ use Rattle.model.specs.declared.Ending.the-variants.{Halted, Trapped, De
 use Rattle.model.specs.declared.Layout.{Layout}
 use Rattle.model.specs.declared.Ranges.{Ranges}
 use Rattle.model.specs.declared.Target.{Target}
-use Rattle.model.specs.Words.{readBytes}
 use Rattle.model.specs.Ranges.{regionRange}
 use Rattle.model.specs.Program.{isIndirect}
-use Rattle.model.specs.Instructions.{bytesOf, loadRange, holds, reg, Access, Shape, stops, assigns, loads, stores, jumps, branches, checks, jumpsVia, traits, ruleN, afterNext, afterTaken}
-use Rattle.model.specs.Step.{address, inRegion, inZones, Effect, goesOn, goesTo, goesVia, ends, accessing, effect, shapeAt}
+use Rattle.model.specs.Instructions.{bytesOf, widthRead, carried, loadRange, holds, reg, Access, loadAccess, Shape, stops, assigns, loads, stores, jumps, branches, checks, jumpsVia, traits, ruleN, afterNext, afterTaken}
+use Rattle.model.specs.Step.{address, inRegion, inZones, Effect, goesOn, goesTo, goesVia, ends, accessing, rawValue, effect, shapeAt}
 use Rattle.model.specs.File.{byteAt, codeStart, codeIn, targetsIn, programOf, programIn}
 use Rattle.model.specs.Rules.{LayoutKept, FileKept, Allowed}
 use Rattle.model.specs.Safety.{EightWords, Bytes}
 use Rattle.model.specs.Accuracy.{Within, AccessAllowed, RangesAccurate}
 use Rattle.model.proofs.Tests.{by-cond}
-use Rattle.model.proofs.Registers.{within-put, words-set, bytes-write}
-use Rattle.model.proofs.Values.{Fits, loaded-fits}
+use Rattle.model.proofs.Registers.{read-below, within-put, words-set, bytes-write}
+use Rattle.model.proofs.Values.{Fits, carried-fits}
 use Rattle.model.proofs.Containment.{contained-in-zones, inZones-passes}
 use Rattle.model.proofs.Cuts.{within-ruleN, within-ruleB}
 use Rattle.model.proofs.Sound.{SoundAccess, Sound, code-sound}
@@ -104,12 +103,13 @@ module _ {l : Layout} (lk : LayoutKept l) (ts : List Target) {k : Ranges} {rs bs
       let new : Fits (ranged (regionRange l) k) (value l rs) = sound .fits w ws in
       λ _. goes-on (assigns a value ranged) _ _ refl refl
       (within-put w ws a (sound .register) (ranged (regionRange l) k) (value l rs) (new .inside)) (words-set ws a (value l rs) (new .word)) bytes
-  effect-accurate (loads a ac) sound =
-      let at : ℕ = address ac rs - l .base in
-      let new : Fits (loadRange (ac .width)) (readBytes (bytesOf (ac .width)) bs at) = loaded-fits (ac .width) bs at (bytes .small) in
-      access-accurate (loads a ac) a ac _ sound refl
-      (λ done allowed. goes-on (loads a ac) _ _ refl refl
-      (within-put (narrowed a ac sound (allowed ac refl) done) ws a (sound .register) (loadRange (ac .width)) _ (new .inside))
+  effect-accurate (loads a b v imm) sound =
+      let ac : Access = loadAccess b v imm in
+      let raw : ℕ = rawValue l (address ac rs) (widthRead v) bs in
+      let new : Fits (loadRange v) (carried v raw) = carried-fits v raw (read-below (bytesOf (widthRead v)) bs _ (bytes .small)) in
+      access-accurate (loads a b v imm) a ac _ sound refl
+      (λ done allowed. goes-on (loads a b v imm) _ _ refl refl
+      (within-put (narrowed a ac sound (allowed ac refl) done) ws a (sound .register) (loadRange v) _ (new .inside))
       (words-set ws a _ (new .word)) bytes)
   effect-accurate (stores a ac) sound =
       access-accurate (stores a ac) a ac _ sound refl

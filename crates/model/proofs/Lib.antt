@@ -20,6 +20,7 @@ pub mod Containment
 pub mod Cuts
 pub mod Sound
 pub mod Accuracy
+pub mod Signs
 pub mod LongFiles
 pub mod Numbers
 pub mod Rows

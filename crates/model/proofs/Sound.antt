@@ -10,15 +10,16 @@ use lib.ListN.{getD}
 use Rattle.model.specs.declared.Instruction.{Instruction}
 use Rattle.model.specs.declared.Instruction.the-variants.{Halt, Set, Copy, Add, Addi, Sub, Andi, Guard, Shr, Sar, Load, Store, Jump, Branch, Check, Jumpr}
 use Rattle.model.specs.declared.Layout.{Layout}
+use Rattle.model.specs.declared.LoadWidth.{LoadWidth}
 use Rattle.model.specs.declared.Range.{Range}
 use Rattle.model.specs.declared.Ranges.{Ranges}
 use Rattle.model.specs.declared.Test.{Test}
 use Rattle.model.specs.declared.Width.{Width}
 use Rattle.model.specs.Words.{modulus, signed}
 use Rattle.model.specs.Ranges.{rangeOf, regionRange}
-use Rattle.model.specs.Instructions.{reg, Access, Shape, stops, assigns, loads, stores, jumps, branches, checks, jumpsVia, shape}
+use Rattle.model.specs.Instructions.{widthRead, reg, Access, loadAccess, Shape, stops, assigns, loads, stores, jumps, branches, checks, jumpsVia, shape}
 use Rattle.model.specs.Step.{shapeAt}
-use Rattle.model.specs.File.{byteAt, isRegister, hasNothing, hasA, hasAB, hasAAmount, hasImm, hasAImm, hasABWImm, provided, rows, widthOf, testOf, decode, instructionAt, instructionIn, instructionCount, programOf}
+use Rattle.model.specs.File.{byteAt, isRegister, hasNothing, hasA, hasAB, hasAAmount, hasImm, hasAImm, hasABWImm, provided, rows, widthOf, loadWidthOf, testOf, decode, instructionAt, instructionIn, instructionCount, programOf}
 use Rattle.model.specs.Rules.{LayoutKept}
 use Rattle.model.specs.Safety.{EightWords}
 use Rattle.model.specs.Accuracy.{Within}
@@ -48,7 +49,7 @@ pub record SoundBranch (a b : ℕ) : Type 0 where
 abbrev pub Sound : Layout → Shape → Type 0
 Sound l stops = Unit {0}
 Sound l (assigns a value ranged) = SoundAssignment l a value ranged
-Sound l (loads a ac) = SoundAccess a ac
+Sound l (loads a b v imm) = SoundAccess a (loadAccess b v imm)
 Sound l (stores a ac) = SoundAccess a ac
 Sound l (jumps to) = Unit {0}
 Sound l (branches test a b to) = SoundBranch a b
@@ -142,7 +143,7 @@ module _ {l : Layout} (lk : LayoutKept l) (a b w imm : ℕ) (imm-word : imm < mo
       then uses-a (some (Guard a)) (λ a8. from-a a8 (λ k rs x. guard-fits lk x))
       then uses-a-w (some (Shr a w)) (λ a8. from-a a8 (λ k rs x. shr-fits w x))
       then uses-a-w (some (Sar a w)) (λ a8. from-a a8 (λ k rs x. sar-fits w x))
-      then uses-all _ (λ a8 b8. mapped-sound l (λ (v : Width). Load a b v (signed imm)) (widthOf w) (access-sound a8 b8))
+      then uses-all _ (λ a8 b8. mapped-sound l (λ (v : LoadWidth). Load a b v (signed imm)) (loadWidthOf w) (λ v. access-sound a8 b8 (widthRead v)))
       then uses-all _ (λ a8 b8. mapped-sound l (λ (v : Width). Store a b v (signed imm)) (widthOf w) (access-sound a8 b8))
       then provided-sound l (hasImm a b w) (some (Jump imm)) (λ _. tt)
       then uses-all _ (λ a8 b8. mapped-sound l (λ (t : Test). Branch a b t imm) (testOf w) (λ t. record { left = a8; right = b8 }))

@@ -18,7 +18,7 @@ use Rattle.model.specs.declared.Width.{Width}
 use Rattle.model.specs.Words.{writeBytes}
 use Rattle.model.specs.Quantifiers.{anyOf}
 use Rattle.model.specs.Program.{Program, targetAt, isTarget, isIndirect}
-use Rattle.model.specs.Instructions.{bytesOf, holds, reg, Shape, stops, assigns, loads, stores, jumps, branches, checks, jumpsVia}
+use Rattle.model.specs.Instructions.{bytesOf, widthRead, holds, reg, loadAccess, Shape, stops, assigns, loads, stores, jumps, branches, checks, jumpsVia}
 use Rattle.model.specs.Step.{address, inRegion, inZones, Effect, goesOn, goesTo, goesVia, ends, accessing, effect, Landing, Step, stays, moves, settle, shapeAt, stepOf, step}
 use Rattle.model.specs.Run.{Run, followed, run}
 use Rattle.model.proofs.Tests.{by-cond}
@@ -76,7 +76,8 @@ effect-moderate : (l : Layout) (ts : List Target) (sh : Shape) (rs bs : List ℕ
 unfolding effect
 effect-moderate l ts stops rs bs = tt
 effect-moderate l ts (assigns a value ranged) rs bs = (length-set rs a (value l rs), refl)
-effect-moderate l ts (loads a ac) rs bs = accessing-moderate l (address ac rs) (ac .width) rs bs _ (length-set rs a _, refl)
+effect-moderate l ts (loads a b v imm) rs bs =
+    accessing-moderate l (address (loadAccess b v imm) rs) (widthRead v) rs bs _ (length-set rs a _, refl)
 effect-moderate l ts (stores a ac) rs bs =
     accessing-moderate l (address ac rs) (ac .width) rs bs _ (refl, writeBytes-length (bytesOf (ac .width)) (reg rs a) bs _)
 effect-moderate l ts (jumps to) rs bs = tt

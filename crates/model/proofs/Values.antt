@@ -12,18 +12,20 @@ use lib.IntN.{ℤ, pos, _+ℤ_, subℕ}
 use lib.Pow.{shr-mono, shr-le, pow-pos, pow-mono, le-ones}
 use borrow.Author.Tests.{lt-ltb, le-ltb, ltb-true, leb-true}
 use Rattle.model.specs.declared.Layout.{Layout}
+use Rattle.model.specs.declared.LoadWidth.{LoadWidth}
+use Rattle.model.specs.declared.LoadWidth.the-variants.{Unsigned, SignedOne, SignedTwo}
 use Rattle.model.specs.declared.Range.{Range}
 use Rattle.model.specs.declared.Ranges.{Ranges}
 use Rattle.model.specs.declared.Width.{Width}
 use Rattle.model.specs.declared.Width.the-variants.{One, Two, Four}
-use Rattle.model.specs.Words.{modulus, wrap, signed, arithmeticShift, bitwiseAnd, readBytes}
-use Rattle.model.specs.Ranges.{range, rangeOf, ruleW, regionRange, guardRange, shrRange, sarRange}
-use Rattle.model.specs.Instructions.{bytesOf, loadRange, reg, guarded}
+use Rattle.model.specs.Words.{modulus, wrap, signed, signedFrom, arithmeticShift, bitwiseAnd}
+use Rattle.model.specs.Ranges.{range, anything, rangeOf, ruleW, regionRange, guardRange, shrRange, sarRange}
+use Rattle.model.specs.Instructions.{bytesOf, widthRead, carried, loadRange, reg, guarded}
 use Rattle.model.specs.Rules.{LayoutKept}
 use Rattle.model.specs.Safety.{EightWords}
 use Rattle.model.specs.Accuracy.{Within}
 use Rattle.model.proofs.Tests.{by-cond, and-left, and-right, or-cases}
-use Rattle.model.proofs.Registers.{In, read-below}
+use Rattle.model.proofs.Registers.{In}
 use Rattle.model.proofs.RuleW.{Signed32, wrap-below, ruleW-add, ruleW-addi, ruleW-sub}
 
 -- a word that lies in a range
@@ -183,13 +185,19 @@ sar-fits {p} {x} w f = record {
 
 -- ---- load
 
--- what a load reads fits its range
-pub loaded-fits : (v : Width) (bs : List ℕ) (at : ℕ) → ((i : ℕ) → getD bs i 0 < 256) → Fits (loadRange v) (readBytes (bytesOf v) bs at)
-loaded-fits v bs at bytes =
-    let below : readBytes (bytesOf v) bs at < 2 ^ (8 * bytesOf v) = read-below (bytesOf v) bs at bytes in
-    record { inside = (omega arith, le-ones (8 * bytesOf v) below); word = lt-of-lt-of-le below (pow-mono (at-most-32 v)) }
+-- a wrapped number fits anything
+wrapped-fits : (z : ℤ) → Fits anything (wrap z)
+wrapped-fits z = record { inside = omega (arith, wrap-below z); word = wrap-below z }
+
+-- what a load carries of a number of its bytes fits its range
+pub carried-fits : (v : LoadWidth) (raw : ℕ) → raw < 2 ^ (8 * bytesOf (widthRead v)) → Fits (loadRange v) (carried v raw)
+unfolding carried
+carried-fits (Unsigned w) raw below =
+    record { inside = (omega arith, le-ones (8 * bytesOf w) below); word = lt-of-lt-of-le below (pow-mono (at-most-32 w)) }
   where
     at-most-32 : (u : Width) → 8 * bytesOf u ≤ 32
     at-most-32 One = omega arith
     at-most-32 Two = omega arith
     at-most-32 Four = omega arith
+carried-fits SignedOne raw below = wrapped-fits (signedFrom 0x80 raw)
+carried-fits SignedTwo raw below = wrapped-fits (signedFrom 0x8000 raw)

@@ -8,6 +8,8 @@ use lib.ListN.{length, getD, take, drop}
 use Rattle.model.specs.declared.Instruction.{Instruction}
 use Rattle.model.specs.declared.Instruction.the-variants.{Halt, Set, Copy, Add, Addi, Sub, Andi, Guard, Shr, Sar, Load, Store, Jump, Branch, Check, Jumpr}
 use Rattle.model.specs.declared.Layout.{Layout}
+use Rattle.model.specs.declared.LoadWidth.{LoadWidth}
+use Rattle.model.specs.declared.LoadWidth.the-variants.{Unsigned, SignedOne, SignedTwo}
 use Rattle.model.specs.declared.Ranges.{Ranges}
 use Rattle.model.specs.declared.Target.{Target}
 use Rattle.model.specs.declared.Test.{Test}
@@ -130,6 +132,10 @@ isUnused x = eqb x 0
 abbrev pub widthOf : ℕ → Option Width
 widthOf w = getD (none ∷ some One ∷ some Two ∷ none ∷ some Four ∷ []) w none
 
+-- document 02, ticket 2: "Load gets two more widths: w 129 and w 130"; "Store stays with 1, 2 and 4."
+abbrev pub loadWidthOf : ℕ → Option LoadWidth
+loadWidthOf w = cond (eqb w 129) (some SignedOne) (cond (eqb w 130) (some SignedTwo) (Option·map Unsigned (widthOf w)))
+
 -- "For branch w is 0 (a = b), 1 (a < b unsigned) or 2 (a < b signed)."
 abbrev pub testOf : ℕ → Option Test
 testOf w = getD (some Equal ∷ some Below ∷ some SignedBelow ∷ []) w none
@@ -174,7 +180,7 @@ rows a b w imm =
     ∷ provided (hasA a b w imm) (some (Guard a))
     ∷ provided (hasAAmount a b w imm) (some (Shr a w))
     ∷ provided (hasAAmount a b w imm) (some (Sar a w))
-    ∷ provided (hasABWImm a b) (Option·map (λ (v : Width). Load a b v (signed imm)) (widthOf w))
+    ∷ provided (hasABWImm a b) (Option·map (λ (v : LoadWidth). Load a b v (signed imm)) (loadWidthOf w))
     ∷ provided (hasABWImm a b) (Option·map (λ (v : Width). Store a b v (signed imm)) (widthOf w))
     ∷ provided (hasImm a b w) (some (Jump imm))
     ∷ provided (hasABWImm a b) (Option·map (λ (t : Test). Branch a b t imm) (testOf w))

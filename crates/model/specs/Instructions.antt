@@ -11,14 +11,16 @@ use lib.ListN.{getD}
 use Rattle.model.specs.declared.Instruction.{Instruction}
 use Rattle.model.specs.declared.Instruction.the-variants.{Halt, Set, Copy, Add, Addi, Sub, Andi, Guard, Shr, Sar, Load, Store, Jump, Branch, Check, Jumpr}
 use Rattle.model.specs.declared.Layout.{Layout}
+use Rattle.model.specs.declared.LoadWidth.{LoadWidth}
+use Rattle.model.specs.declared.LoadWidth.the-variants.{Unsigned, SignedOne, SignedTwo}
 use Rattle.model.specs.declared.Range.{Range}
 use Rattle.model.specs.declared.Ranges.{Ranges}
 use Rattle.model.specs.declared.Test.{Test}
 use Rattle.model.specs.declared.Test.the-variants.{Equal, Below, SignedBelow}
 use Rattle.model.specs.declared.Width.{Width}
 use Rattle.model.specs.declared.Width.the-variants.{One, Two, Four}
-use Rattle.model.specs.Words.{wrap, signed, arithmeticShift, bitwiseAnd}
-use Rattle.model.specs.Ranges.{range, low, high, rangeOf, put, ruleW, guardRange, shrRange, sarRange, cut, between, ruleB}
+use Rattle.model.specs.Words.{wrap, signed, signedFrom, arithmeticShift, bitwiseAnd}
+use Rattle.model.specs.Ranges.{range, anything, low, high, rangeOf, put, ruleW, guardRange, shrRange, sarRange, cut, between, ruleB}
 
 -- "For load and store w is 1, 2 or 4."
 abbrev pub bytesOf : Width → ℕ
@@ -26,9 +28,23 @@ bytesOf One = 1
 bytesOf Two = 2
 bytesOf Four = 4
 
--- a load's range after it: "0 to 2^(8w) − 1"
-abbrev pub loadRange : Width → Range
-loadRange w = range 0 (2 ^ (8 * bytesOf w) - 1)
+-- document 02, ticket 2: "w 129 and w 130 read one and two bytes and carry the sign up through 32 bits.": the bytes that a load reads
+abbrev pub widthRead : LoadWidth → Width
+widthRead (Unsigned w) = w
+widthRead SignedOne = One
+widthRead SignedTwo = Two
+
+-- and what it makes of the number read: "zero-extended", or its signed reading of one or two bytes, as a word
+unfoldable pub carried : LoadWidth → ℕ → ℕ
+carried (Unsigned w) raw = raw
+carried SignedOne raw = wrap (signedFrom 0x80 raw)
+carried SignedTwo raw = wrap (signedFrom 0x8000 raw)
+
+-- a load's range after it: "0 to 2^(8w) − 1"; document 02, ticket 2: "Their range afterwards is anything."
+abbrev pub loadRange : LoadWidth → Range
+loadRange (Unsigned w) = range 0 (2 ^ (8 * bytesOf w) - 1)
+loadRange SignedOne = anything
+loadRange SignedTwo = anything
 
 -- "For branch w is 0 (a = b), 1 (a < b unsigned) or 2 (a < b signed)."
 unfoldable pub holds : Test → ℕ → ℕ → Bool
@@ -50,12 +66,17 @@ pub record Access : Type 0 where
   pub width : Width
   pub displacement : ℤ
 
+-- a load's access goes by the bytes it reads
+abbrev pub loadAccess : ℕ → LoadWidth → ℤ → Access
+loadAccess b v imm = record { pointer = b; width = widthRead v; displacement = imm }
+
 -- What an instruction is, seen by what it does. `assigns` has both columns of the table: the register's new value, from the
--- layout and the registers before, and its new range, from the region's range and the ranges before.
+-- layout and the registers before, and its new range, from the region's range and the ranges before. `loads` has a load's operands,
+-- register, pointer, width and displacement.
 pub data Shape : Type 0 where
   stops : Shape
   assigns : ℕ → (Layout → List ℕ → ℕ) → (Range → Ranges → Range) → Shape
-  loads : ℕ → Access → Shape
+  loads : ℕ → ℕ → LoadWidth → ℤ → Shape
   stores : ℕ → Access → Shape
   jumps : ℕ → Shape
   branches : Test → ℕ → ℕ → ℕ → Shape
@@ -78,7 +99,7 @@ shape (Andi a imm) = assigns a (λ l rs. bitwiseAnd 32 (reg rs a) imm) (λ regio
 shape (Guard a) = assigns a (λ l rs. guarded l (reg rs a)) (λ region k. guardRange region (rangeOf k a))
 shape (Shr a w) = assigns a (λ l rs. reg rs a / 2 ^ w) (λ region k. shrRange (rangeOf k a) w)
 shape (Sar a w) = assigns a (λ l rs. arithmeticShift (reg rs a) w) (λ region k. sarRange (rangeOf k a) w)
-shape (Load a b w imm) = loads a (record { pointer = b; width = w; displacement = imm })
+shape (Load a b v imm) = loads a b v imm
 shape (Store a b w imm) = stores a (record { pointer = b; width = w; displacement = imm })
 shape (Jump to) = jumps to
 shape (Branch a b test to) = branches test a b to
@@ -100,7 +121,7 @@ has ac n g k f = record { access = ac; names = n; goesBy = g; looksAt = k; falls
 abbrev pub traits : Shape → Traits
 traits stops = has none none none none false
 traits (assigns a value ranged) = has none none none none true
-traits (loads a ac) = has (some ac) none none none true
+traits (loads a b v imm) = has (some (loadAccess b v imm)) none none none true
 traits (stores a ac) = has (some ac) none none none true
 traits (jumps to) = has none (some to) none none false
 traits (branches test a b to) = has none (some to) none none true
@@ -123,7 +144,7 @@ ruleN region ac k =
 unfoldable pub afterNext : Range → Shape → Ranges → Ranges
 afterNext region stops k = k
 afterNext region (assigns a value ranged) k = put k a (ranged region k)
-afterNext region (loads a ac) k = put (ruleN region ac k) a (loadRange (ac .width))
+afterNext region (loads a b v imm) k = put (ruleN region (loadAccess b v imm) k) a (loadRange v)
 afterNext region (stores a ac) k = ruleN region ac k
 afterNext region (jumps to) k = k
 afterNext region (branches test a b to) k = ruleB test false a b k
@@ -133,7 +154,7 @@ afterNext region (jumpsVia a) k = k
 unfoldable pub afterTaken : Shape → Ranges → Ranges
 afterTaken stops k = k
 afterTaken (assigns a value ranged) k = k
-afterTaken (loads a ac) k = k
+afterTaken (loads a b v imm) k = k
 afterTaken (stores a ac) k = k
 afterTaken (jumps to) k = k
 afterTaken (branches test a b to) k = ruleB test true a b k

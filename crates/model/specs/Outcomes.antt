@@ -1,8 +1,8 @@
 -- The known outcomes that are proved, P1 to P12 and those of document 02's tickets: what the definitions give, and what the documents
 -- say. The claims that the two agree in every row are `KnownOutcomes` and `KnownRequests` in Promises. Assumes nothing.
-use Prim.Native.Nat.{ℕ, _+_, _-_}
+use Prim.Native.Nat.{ℕ, zero, suc, _+_, _-_}
 use mathlib.Core.Bool.{true, false}
-use mathlib.Core.List.{List, [], _∷_, _++_}
+use mathlib.Core.List.{List, [], _∷_, _++_, map}
 use mathlib.Core.Option.{Option, none, some}
 use lib.IntN.{ℤ, pos, negsuc, sucℤ, predℤ}
 use lib.ListN.{getD, replicate}
@@ -10,22 +10,23 @@ use Rattle.model.specs.declared.Ending.{Ending}
 use Rattle.model.specs.declared.Instruction.{Instruction}
 use Rattle.model.specs.declared.Instruction.the-variants.{Halt, Set, Addi, Guard, Sar, Load, Jump, Branch}
 use Rattle.model.specs.declared.Layout.{Layout}
+use Rattle.model.specs.declared.LoadWidth.{LoadWidth}
+use Rattle.model.specs.declared.LoadWidth.the-variants.{Unsigned, SignedOne, SignedTwo}
 use Rattle.model.specs.declared.Machine.{Machine}
 use Rattle.model.specs.declared.Range.{Range}
 use Rattle.model.specs.declared.Ranges.{Ranges}
 use Rattle.model.specs.declared.Target.{Target}
 use Rattle.model.specs.declared.Test.the-variants.{Below}
-use Rattle.model.specs.declared.Width.{Width}
 use Rattle.model.specs.declared.Width.the-variants.{One, Two, Four}
 use Rattle.model.specs.Quantifiers.{allBelow}
-use Rattle.model.specs.Words.{top, wrap, signed, arithmeticShift, readBytes}
+use Rattle.model.specs.Words.{top, wrap, signed, signedFrom, arithmeticShift, readBytes}
 use Rattle.model.specs.Obligations.{Fault, firstFault, eachFrom}
 use Rattle.model.specs.Answers.{endingNumber, Judgement, accepted, refused}
 use Rattle.model.specs.Ranges.{range, anything, low, high, put, unknown, regionRange, ruleW, guardRange, sarRange, cut, between, cutBoth, ruleB, liesWithin}
 use Rattle.model.specs.Program.{Program, targetAt}
-use Rattle.model.specs.Instructions.{guarded, shape, ruleN, afterNext, afterTaken}
+use Rattle.model.specs.Instructions.{bytesOf, carried, guarded, Access, shape, traits, ruleN, afterNext, afterTaken}
 use Rattle.model.specs.Step.{inRegion, inZones, accessing, effect, addressesFrom, settle, stepOf, step}
-use Rattle.model.specs.File.{isListed, field, tabulate, fieldValue, readable, programOf}
+use Rattle.model.specs.File.{isListed, field, rows, decode, tabulate, fieldValue, readable, programOf}
 use Rattle.model.specs.Judgement.{knownAt, isReachable, isChecked, isContained, accessContained, jumpsToTarget, staysInside, takenKept, nextKept, beforeNext, atIndex, verified, obligations, firstBroken, judgement}
 use Rattle.model.specs.Run.{run, steps}
 
@@ -76,7 +77,7 @@ spent = 4
 
 -- one step from r0 = r1 = x: r0 after it, and how it ended
 unfoldable pub steppedIn : Layout → Instruction → ℕ → List ℕ
-unfolding step stepOf settle effect accessing shape guarded wrap inRegion inZones readBytes addressesFrom targetAt endingNumber
+unfolding step stepOf settle effect accessing carried shape guarded wrap inRegion inZones readBytes addressesFrom targetAt endingNumber
 steppedIn l i x = let s = step (only l i) (holding x) zeros in getD (s .machine .registers) 0 0 ∷ endingOr running (s .ending) ∷ []
 
 abbrev pub stepped : Instruction → ℕ → List ℕ
@@ -110,19 +111,19 @@ unfoldable pub judged : List Instruction → List Target → List ℕ
 unfolding allBelow verified eachFrom firstFault atIndex beforeNext isReachable isChecked accessContained isContained jumpsToTarget staysInside takenKept nextKept liesWithin knownAt targetAt shape afterNext afterTaken ruleN ruleW guardRange cut between
 judged code targets = faultTold (firstFault (verified (record { layout = layout; code = code; targets = entry ∷ targets })))
 
--- of an access of four bytes through r1, which a guard has put in DB to DL
-abbrev pub accessed : ℤ → List ℕ
-accessed imm = judged (Guard 1 ∷ Load 0 1 Four imm ∷ Halt ∷ []) []
+-- of a load through r1, which a guard has put in DB to DL
+abbrev pub accessed : LoadWidth → ℤ → List ℕ
+accessed v imm = judged (Guard 1 ∷ Load 0 1 v imm ∷ Halt ∷ []) []
 
 -- at a displacement, and at the next one above or below
-abbrev pub andAbove : ℤ → List ℕ
-andAbove imm = accessed imm ++ accessed (sucℤ imm)
+abbrev pub andAbove : LoadWidth → ℤ → List ℕ
+andAbove v imm = accessed v imm ++ accessed v (sucℤ imm)
 
-abbrev pub andBelow : ℤ → List ℕ
-andBelow imm = accessed imm ++ accessed (predℤ imm)
+abbrev pub andBelow : LoadWidth → ℤ → List ℕ
+andBelow v imm = accessed v imm ++ accessed v (predℤ imm)
 
-abbrev pub load : Width → Instruction
-load w = Load 0 1 w (pos 0)
+abbrev pub load : LoadWidth → Instruction
+load v = Load 0 1 v (pos 0)
 
 -- a run of no steps: its ending and its count
 unfoldable pub ran : ℕ → List ℕ
@@ -152,10 +153,10 @@ table =
     ∷ row 6 (taken below (range 0 100) (range 10 10)) (0 ∷ 9 ∷ 10 ∷ 10 ∷ [])
     ∷ row 6 (next below (range 0 100) (range 10 10)) (10 ∷ 100 ∷ 10 ∷ 10 ∷ [])
     ∷ row 7 (taken below (range 10 20) (range 5 5)) (10 ∷ 20 ∷ 5 ∷ 5 ∷ [])
-    ∷ row 8 (andAbove (pos 253)) (0 ∷ 10 ∷ 1 ∷ [])
-    ∷ row 8 (andBelow (negsuc 255)) (0 ∷ 10 ∷ 1 ∷ [])
-    ∷ row 9 (let at : ℕ = 0x2000_0FFC in stepped (load Four) at ++ stepped (load Four) (at + 1)) (0 ∷ running ∷ 0x2000_0FFD ∷ trapped ∷ [])
-    ∷ row 10 (let at : ℕ = 0x1FFF_FF00 in stepped (load One) at ++ stepped (load One) (at - 1))
+    ∷ row 8 (andAbove (Unsigned Four) (pos 253)) (0 ∷ 10 ∷ 1 ∷ [])
+    ∷ row 8 (andBelow (Unsigned Four) (negsuc 255)) (0 ∷ 10 ∷ 1 ∷ [])
+    ∷ row 9 (let at : ℕ = 0x2000_0FFC in stepped (load (Unsigned Four)) at ++ stepped (load (Unsigned Four)) (at + 1)) (0 ∷ running ∷ 0x2000_0FFD ∷ trapped ∷ [])
+    ∷ row 10 (let at : ℕ = 0x1FFF_FF00 in stepped (load (Unsigned One)) at ++ stepped (load (Unsigned One)) (at - 1))
     (0x1FFF_FF00 ∷ trapped ∷ 0x1FFF_FEFF ∷ strayed ∷ [])
     ∷ row 11 (ran 0) (spent ∷ 0 ∷ [])
     ∷ row 12 (verdictOn []) (1 ∷ 0 ∷ [])
@@ -177,22 +178,22 @@ DL = regionRange layout .high
 -- "loads the left sample at imm 0 and the right one at imm 2", and again, four bytes further
 abbrev pub stereo : List ℕ
 stereo =
-    judged (Guard 1 ∷ Load 0 1 Two (pos 0) ∷ Load 2 1 Two (pos 2) ∷ Addi 1 (pos 4) ∷ Jump 1 ∷ [])
+    judged (Guard 1 ∷ Load 0 1 (Unsigned Two) (pos 0) ∷ Load 2 1 (Unsigned Two) (pos 2) ∷ Addi 1 (pos 4) ∷ Jump 1 ∷ [])
     (claiming 1 (range DB (DL + 1)) anything ∷ [])
 
 -- "Pointers that are only ever used with imm other than 0"
 abbrev pub onlyRight : List ℕ
-onlyRight = judged (Guard 1 ∷ Load 0 1 Two (pos 2) ∷ Addi 1 (pos 4) ∷ Jump 1 ∷ []) (claiming 1 (range DB (DL + 4)) anything ∷ [])
+onlyRight = judged (Guard 1 ∷ Load 0 1 (Unsigned Two) (pos 2) ∷ Addi 1 (pos 4) ∷ Jump 1 ∷ []) (claiming 1 (range DB (DL + 4)) anything ∷ [])
 
 -- "a module can also turn to refused where a cut is now empty and so not made": a cut of rule N, and one of rule B
 abbrev pub emptyByN : List ℕ
 emptyByN =
-    judged (Set 1 (DL - 1) ∷ Load 0 1 Four (pos 0) ∷ Halt ∷ [])
+    judged (Set 1 (DL - 1) ∷ Load 0 1 (Unsigned Four) (pos 0) ∷ Halt ∷ [])
     (claiming 1 (range (DL - 1) (DL + 100)) anything ∷ claiming 2 (range (DL - 1) DL) anything ∷ [])
 
 abbrev pub emptyByB : List ℕ
 emptyByB =
-    judged (Set 1 DL ∷ Set 2 DL ∷ Load 0 1 One (pos 1) ∷ Branch 1 2 Below 0 ∷ Halt ∷ [])
+    judged (Set 1 DL ∷ Set 2 DL ∷ Load 0 1 (Unsigned One) (pos 1) ∷ Branch 1 2 Below 0 ∷ Halt ∷ [])
     (claiming 2 (range (DL - 5) (DL + 50)) (range DL (DL + 1)) ∷ claiming 4 (range DL (DL + 50)) anything ∷ [])
 
 -- an access that breaks 10, in a region that ends at the last address: from r1 = 0 its wrapped address lies in the region, so that it
@@ -201,10 +202,29 @@ abbrev pub highest : Layout
 highest = record { base = 0xFFFF_F000; size = 4096; guard = 0 }
 
 abbrev pub wrapping : Instruction
-wrapping = Load 0 1 Four (negsuc 15)
+wrapping = Load 0 1 (Unsigned Four) (negsuc 15)
+
+-- ticket 2: what a load makes of the numbers that it reads
+unfoldable pub carriedOf : LoadWidth → List ℕ → List ℕ
+unfolding carried signedFrom wrap
+carriedOf v raws = map (carried v) raws
+
+-- each w that rule 6 lets an opcode have, with r0 and r1, and how many bytes the access then has
+abbrev pub bytesTold : ℕ → Option Instruction → List ℕ
+bytesTold w none = []
+bytesTold w (some i) = accessTold (traits (shape i) .access)
+  where
+    accessTold : Option Access → List ℕ
+    accessTold none = []
+    accessTold (some ac) = w ∷ bytesOf (ac .width) ∷ []
+
+unfoldable pub widthsBelow : ℕ → ℕ → List ℕ
+unfolding decode rows shape
+widthsBelow zero op = []
+widthsBelow (suc w) op = widthsBelow w op ++ bytesTold w (decode op 0 1 w 0)
 
 unfoldable pub requests : List Row
-unfolding steppedIn nextIn judged
+unfolding steppedIn nextIn judged carriedOf widthsBelow
 requests =
     row 1 stereo (0 ∷ [])
     ∷ row 1 onlyRight (0 ∷ [])
@@ -212,6 +232,14 @@ requests =
     ∷ row 1 emptyByB (11 ∷ 3 ∷ [])
     ∷ row 1 (steppedIn highest wrapping 0) (0 ∷ running ∷ [])
     ∷ row 1 (nextIn highest wrapping anything anything) (0 ∷ top ∷ 0xFFFF_F010 ∷ top ∷ [])
+    ∷ row 2 (carriedOf SignedOne (0 ∷ 0x7F ∷ 0x80 ∷ 0xFF ∷ [])) (0 ∷ 0x7F ∷ 0xFFFF_FF80 ∷ 0xFFFF_FFFF ∷ [])
+    ∷ row 2 (carriedOf SignedTwo (0 ∷ 0x7FFF ∷ 0x8000 ∷ 0xFFFF ∷ [])) (0 ∷ 0x7FFF ∷ 0xFFFF_8000 ∷ 0xFFFF_FFFF ∷ [])
+    ∷ row 2 (widthsBelow 256 10) (1 ∷ 1 ∷ 2 ∷ 2 ∷ 4 ∷ 4 ∷ 129 ∷ 1 ∷ 130 ∷ 2 ∷ [])
+    ∷ row 2 (widthsBelow 256 11) (1 ∷ 1 ∷ 2 ∷ 2 ∷ 4 ∷ 4 ∷ [])
+    ∷ row 2 (next (load SignedOne) anything anything) (0 ∷ top ∷ DB ∷ DL ∷ [])
+    ∷ row 2 (next (load SignedTwo) anything anything) (0 ∷ top ∷ DB ∷ (DL - 1) ∷ [])
+    ∷ row 2 (andAbove SignedOne (pos 256)) (0 ∷ 10 ∷ 1 ∷ [])
+    ∷ row 2 (andAbove SignedTwo (pos 255)) (0 ∷ 10 ∷ 1 ∷ [])
     ∷ []
 
 -- the outcomes' numbers, in order

@@ -10,7 +10,10 @@ use lib.ListN.{length, take, replicate}
 use Rattle.model.specs.declared.Ending.{Ending}
 use Rattle.model.specs.declared.Ending.the-variants.{OutOfBudget}
 use Rattle.model.specs.declared.Layout.{Layout}
+use Rattle.model.specs.declared.LoadWidth.the-variants.{SignedOne, SignedTwo}
 use Rattle.model.specs.declared.Machine.{Machine}
+use Rattle.model.specs.Words.{modulus, signed, signedFrom}
+use Rattle.model.specs.Instructions.{carried}
 use Rattle.model.specs.Obligations.{Fault, fault, firstFault, FirstUnmet}
 use Rattle.model.specs.Answers.{accepted, refused, ended, rejected}
 use Rattle.model.specs.Program.{Program}
@@ -108,7 +111,15 @@ pub record LoopJudged : Type 0 where
 -- and in every row of document 02's tickets they give what it says
 pub record KnownRequests : Type 0 where
   pub agree : (r : Row) → List·Memᴰ r Outcomes.requests → r .given ≡ r .expected
-  pub complete : numbers Outcomes.requests ≡ 1 ∷ 1 ∷ 1 ∷ 1 ∷ 1 ∷ 1 ∷ []
+  pub complete : numbers Outcomes.requests
+      ≡ 1 ∷ 1 ∷ 1 ∷ 1 ∷ 1 ∷ 1 ∷ 2 ∷ 2 ∷ 2 ∷ 2 ∷ 2 ∷ 2 ∷ 2 ∷ 2 ∷ []
+
+-- document 02, ticket 2: "carry the sign up through 32 bits": the signed reading of what a load carries is that of the sample, for
+-- every sample of one byte and of two; and of a word `signedFrom` is document 01's signed reading
+pub record SignCarried : Type 0 where
+  pub one : (raw : ℕ) → raw < 0x100 → signed (carried SignedOne raw) ≡ signedFrom 0x80 raw
+  pub two : (raw : ℕ) → raw < 0x1_0000 → signed (carried SignedTwo raw) ≡ signedFrom 0x8000 raw
+  pub word : (x : ℕ) → x < modulus → signedFrom 0x8000_0000 x ≡ signed x
 
 -- "Numbers are decimal": a number below ten is its digit, and any other has the digits of its tenth and then its last
 pub record DecimalKnown : Type 0 where
@@ -145,7 +156,7 @@ pub record CallsAnswer : Type 0 where
 pub record KnownWalks : Type 0 where
   pub agree : (r : Row) → List·Memᴰ r Walks.table → r .given ≡ r .expected
   pub complete : numbers Walks.table
-      ≡ 1 ∷ 2 ∷ 3 ∷ 4 ∷ 5 ∷ 6 ∷ 7 ∷ 8 ∷ 9 ∷ 10 ∷ 11 ∷ 12 ∷ 13 ∷ 14 ∷ 15 ∷ 16 ∷ []
+      ≡ 1 ∷ 2 ∷ 3 ∷ 4 ∷ 5 ∷ 6 ∷ 7 ∷ 8 ∷ 9 ∷ 10 ∷ 11 ∷ 12 ∷ 13 ∷ 14 ∷ 15 ∷ 16 ∷ 17 ∷ 18 ∷ 19 ∷ 20 ∷ []
 
 -- two calls of the loop, of budgets 3 and 2: it can be fed to the walk, and each call is answered so
 pub record LoopWalked : Type 0 where

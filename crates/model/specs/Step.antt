@@ -10,12 +10,13 @@ use Rattle.model.specs.declared.Ending.{Ending}
 use Rattle.model.specs.declared.Ending.the-variants.{Halted, Trapped, Denied, Violated}
 use Rattle.model.specs.declared.Instruction.{Instruction}
 use Rattle.model.specs.declared.Layout.{Layout}
+use Rattle.model.specs.declared.LoadWidth.{LoadWidth}
 use Rattle.model.specs.declared.Machine.{Machine}
 use Rattle.model.specs.declared.Target.{Target}
 use Rattle.model.specs.declared.Width.{Width}
 use Rattle.model.specs.Words.{wrap, readBytes, writeBytes}
 use Rattle.model.specs.Program.{Program, codeAt, isTarget, isIndirect}
-use Rattle.model.specs.Instructions.{bytesOf, holds, reg, Access, Shape, stops, assigns, loads, stores, jumps, branches, checks, jumpsVia, shape, traits}
+use Rattle.model.specs.Instructions.{bytesOf, widthRead, carried, holds, reg, Access, loadAccess, Shape, stops, assigns, loads, stores, jumps, branches, checks, jumpsVia, shape, traits}
 
 -- "The address is taken after wrapping."
 abbrev pub address : Access → List ℕ → ℕ
@@ -42,20 +43,24 @@ unfoldable pub accessing : Layout → ℕ → Width → Effect → Effect
 accessing l at w done =
     cond (inRegion l at (bytesOf w)) done (ends (cond (inZones l at (bytesOf w)) Trapped Violated))
 
--- what a load from an address does, and a store to it: "The address base is the first byte of the lent stretch, and loads and
--- stores are little-endian."
-abbrev pub loading : Layout → ℕ → Width → ℕ → List ℕ → List ℕ → Effect
-loading l at w a rs bs = accessing l at w (goesOn (set rs a (readBytes (bytesOf w) bs (at - l .base))) bs)
+-- the number that is read at an address, before any sign is carried: "The address base is the first byte of the lent stretch, and
+-- loads and stores are little-endian."
+abbrev pub rawValue : Layout → ℕ → Width → List ℕ → ℕ
+rawValue l at w bs = readBytes (bytesOf w) bs (at - l .base)
+
+-- what a load from an address does, and a store to it
+abbrev pub loading : Layout → ℕ → LoadWidth → ℕ → List ℕ → List ℕ → Effect
+loading l at v a rs bs = accessing l at (widthRead v) (goesOn (set rs a (carried v (rawValue l at (widthRead v) bs))) bs)
 
 abbrev pub storing : Layout → ℕ → Width → ℕ → List ℕ → List ℕ → Effect
 storing l at w value rs bs = accessing l at w (goesOn rs (writeBytes (bytesOf w) value bs (at - l .base)))
 
--- the table's middle column: "a := w bytes at b + imm, zero-extended", "low w bytes of a to b + imm", "to imm if the test
--- holds", "turned away unless a is an open door's index", "to the index in a"
+-- the table's middle column: "a := w bytes at b + imm, zero-extended" (or with their sign), "low w bytes of a to b + imm", "to imm if
+-- the test holds", "turned away unless a is an open door's index", "to the index in a"
 unfoldable pub effect : Layout → List Target → Shape → List ℕ → List ℕ → Effect
 effect l ts stops rs bs = ends Halted
 effect l ts (assigns a value ranged) rs bs = goesOn (set rs a (value l rs)) bs
-effect l ts (loads a ac) rs bs = loading l (address ac rs) (ac .width) a rs bs
+effect l ts (loads a b v imm) rs bs = loading l (address (loadAccess b v imm) rs) v a rs bs
 effect l ts (stores a ac) rs bs = storing l (address ac rs) (ac .width) (reg rs a) rs bs
 effect l ts (jumps to) rs bs = goesTo to
 effect l ts (branches test a b to) rs bs = cond (holds test (reg rs a) (reg rs b)) (goesTo to) (goesOn rs bs)

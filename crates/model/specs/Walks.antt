@@ -8,15 +8,17 @@ use lib.ListN.{getD, replicate}
 use Rattle.model.specs.declared.Instruction.{Instruction}
 use Rattle.model.specs.declared.Instruction.the-variants.{Halt, Load, Store, Jump, Branch, Check, Jumpr}
 use Rattle.model.specs.declared.Layout.{Layout}
+use Rattle.model.specs.declared.LoadWidth.{LoadWidth}
+use Rattle.model.specs.declared.LoadWidth.the-variants.{Unsigned, SignedOne, SignedTwo}
 use Rattle.model.specs.declared.Machine.{Machine}
 use Rattle.model.specs.declared.Target.{Target}
 use Rattle.model.specs.declared.Test.the-variants.{Equal}
 use Rattle.model.specs.declared.Width.the-variants.{Two, Four}
-use Rattle.model.specs.Words.{wrap, readBytes, writeBytes}
+use Rattle.model.specs.Words.{wrap, signedFrom, readBytes, writeBytes}
 use Rattle.model.specs.Answers.{endingNumber, Report, ended, rejected}
 use Rattle.model.specs.Ranges.{unknown}
 use Rattle.model.specs.Program.{Program, targetAt}
-use Rattle.model.specs.Instructions.{holds, shape}
+use Rattle.model.specs.Instructions.{carried, holds, shape}
 use Rattle.model.specs.Step.{inRegion, inZones, accessing, effect, addressesFrom, Landing, nowhere, named, viaRegister, Step, settle, stepOf, step}
 use Rattle.model.specs.Run.{run, splice}
 use Rattle.model.specs.Walk.{Call, Walked, hostWrites, walkCall, walk}
@@ -84,7 +86,7 @@ told (w ∷ ws) =
     ++ (log-told (w .call) (w .before) (w .log) ++ told ws)))
 
 unfoldable pub walked : Program → Machine → List Call → List ℕ
-unfolding told walk walkCall hostWrites run step stepOf settle effect accessing shape holds wrap inRegion inZones readBytes writeBytes addressesFrom targetAt splice endingNumber
+unfolding told walk walkCall hostWrites run step stepOf settle effect accessing carried signedFrom shape holds wrap inRegion inZones readBytes writeBytes addressesFrom targetAt splice endingNumber
 walked p m calls = told (walk p m nines calls)
 
 -- ---- what document 01 says
@@ -113,17 +115,32 @@ step-is reached landing ending r0 r1 place memory = reached ++ (landing ++ (endi
 abbrev pub call-is : ℕ → ℕ → ℕ → ℕ → ℕ → List ℕ → List ℕ → List ℕ
 call-is ending count r0 r1 place memory steps = ending ∷ count ∷ r0 ∷ r1 ∷ place ∷ (memory ++ steps)
 
+-- the halt at index 1 that follows a step
+abbrev pub then-halts : ℕ → ℕ → List ℕ → List ℕ
+then-halts r0 r1 memory = step-is [] (0 ∷ []) halted r0 r1 1 memory
+
+-- a call of one step that reaches for some bytes and is done, and the halt behind it
+abbrev pub done-then-halts : List ℕ → ℕ → ℕ → List ℕ → List ℕ
+done-then-halts reached r0 r1 memory =
+    call-is halted 2 r0 r1 1 memory (step-is reached (0 ∷ []) running r0 r1 1 memory ++ then-halts r0 r1 memory)
+
 -- a call of one step that ends the run and changes nothing
 abbrev pub ends-at-once : ℕ → List ℕ → List ℕ → ℕ → ℕ → List ℕ
 ends-at-once ending reached landing r0 r1 =
     call-is ending 1 r0 r1 0 as-written (step-is reached landing ending r0 r1 0 as-written)
 
--- the halt at index 1 that follows a step
-abbrev pub then-halts : ℕ → ℕ → List ℕ → List ℕ
-then-halts r0 r1 memory = step-is [] (0 ∷ []) halted r0 r1 1 memory
+abbrev pub loadOf : LoadWidth → Program
+loadOf v = first (Load 0 1 v (pos 0)) one
 
 abbrev pub load : Program
-load = first (Load 0 1 Four (pos 0)) one
+load = loadOf (Unsigned Four)
+
+-- document 02, ticket 2: samples that the host has written
+abbrev pub samples : Call
+samples = record { offset = 10; budget = 9; bytes = 0x01 ∷ 0x80 ∷ 0xFF ∷ 0x7F ∷ replicate 252 0 }
+
+abbrev pub as-sampled : List ℕ
+as-sampled = 9 ∷ 0x01 ∷ 0x80 ∷ 0xFF ∷ 0x7F ∷ 0 ∷ 9 ∷ []
 
 abbrev pub store : Program
 store = first (Store 0 1 Two (pos 0)) one
@@ -133,18 +150,14 @@ unfolding walked
 table =
     -- a load that is done, one that is trapped, one that strays: "done or not" it reaches for its bytes
     row 1 (walked load (from 5 0x2000_0000) (at 10 9 ∷ []))
-    (call-is halted 2 0x0403_0201 0x2000_0000 1 as-written
-    (step-is (four 0x2000_0000) (0 ∷ []) running 0x0403_0201 0x2000_0000 1 as-written
-    ++ then-halts 0x0403_0201 0x2000_0000 as-written))
+    (done-then-halts (four 0x2000_0000) 0x0403_0201 0x2000_0000 as-written)
     ∷ row 2 (walked load (from 5 0x2000_00FD) (at 10 9 ∷ []))
     (ends-at-once trapped (four 0x2000_00FD) (0 ∷ []) 5 0x2000_00FD)
     ∷ row 3 (walked load (from 5 0x2000_010D) (at 10 9 ∷ []))
     (ends-at-once strayed (four 0x2000_010D) (0 ∷ []) 5 0x2000_010D)
     -- a store: the memory at the end of each step
     ∷ row 4 (walked store (from 0x0D0C_0B0A 0x2000_0001) (at 10 9 ∷ []))
-    (call-is halted 2 0x0D0C_0B0A 0x2000_0001 1 (9 ∷ 1 ∷ 0x0A ∷ 0x0B ∷ 4 ∷ 0 ∷ 9 ∷ [])
-    (step-is (0x2000_0001 ∷ 0x2000_0002 ∷ []) (0 ∷ []) running 0x0D0C_0B0A 0x2000_0001 1 (9 ∷ 1 ∷ 0x0A ∷ 0x0B ∷ 4 ∷ 0 ∷ 9 ∷ [])
-    ++ then-halts 0x0D0C_0B0A 0x2000_0001 (9 ∷ 1 ∷ 0x0A ∷ 0x0B ∷ 4 ∷ 0 ∷ 9 ∷ [])))
+    (done-then-halts (0x2000_0001 ∷ 0x2000_0002 ∷ []) 0x0D0C_0B0A 0x2000_0001 (9 ∷ 1 ∷ 0x0A ∷ 0x0B ∷ 4 ∷ 0 ∷ 9 ∷ []))
     -- a jump that goes, and one that strays: it "lands on the index it goes to, even where it strays"
     ∷ row 5 (walked (first (Jump 1) two) (from 5 6) (at 10 9 ∷ []))
     (call-is halted 2 5 6 1 as-written (step-is [] (1 ∷ 1 ∷ []) running 5 6 1 as-written ++ then-halts 5 6 as-written))
@@ -154,7 +167,7 @@ table =
     (call-is halted 2 5 5 1 as-written (step-is [] (1 ∷ 1 ∷ []) running 5 5 1 as-written ++ then-halts 5 5 as-written))
     ∷ row 8 (walked (first (Branch 0 1 Equal 7) two) (from 5 5) (at 10 9 ∷ [])) (ends-at-once strayed [] (1 ∷ 7 ∷ []) 5 5)
     ∷ row 9 (walked (first (Branch 0 1 Equal 7) two) (from 5 6) (at 10 9 ∷ []))
-    (call-is halted 2 5 6 1 as-written (step-is [] (0 ∷ []) running 5 6 1 as-written ++ then-halts 5 6 as-written))
+    (done-then-halts [] 5 6 as-written)
     -- a jumpr that goes to an open door, and one that strays at an inner one; a check that turns away
     ∷ row 10 (walked (first (Jumpr 0) two) (from 0 6) (at 10 1 ∷ []))
     (call-is spent 1 0 6 0 as-written (step-is [] (2 ∷ 0 ∷ []) running 0 6 0 as-written))
@@ -170,4 +183,13 @@ table =
     (call-is spent 1 0x0403_0201 0x2000_0000 1 as-written
     (step-is (four 0x2000_0000) (0 ∷ []) running 0x0403_0201 0x2000_0000 1 as-written)
     ++ call-is halted 1 0x0403_0201 0x2000_0000 1 as-written (then-halts 0x0403_0201 0x2000_0000 as-written))
+    -- signed loads, of a negative byte, of two bytes with a sign and without, and one that is trapped: each reaches for one byte or two
+    ∷ row 17 (walked (loadOf SignedOne) (from 5 0x2000_0001) (samples ∷ []))
+    (done-then-halts (0x2000_0001 ∷ []) 0xFFFF_FF80 0x2000_0001 as-sampled)
+    ∷ row 18 (walked (loadOf SignedTwo) (from 5 0x2000_0000) (samples ∷ []))
+    (done-then-halts (0x2000_0000 ∷ 0x2000_0001 ∷ []) 0xFFFF_8001 0x2000_0000 as-sampled)
+    ∷ row 19 (walked (loadOf SignedTwo) (from 5 0x2000_0002) (samples ∷ []))
+    (done-then-halts (0x2000_0002 ∷ 0x2000_0003 ∷ []) 0x7FFF 0x2000_0002 as-sampled)
+    ∷ row 20 (walked (loadOf SignedTwo) (from 5 0x2000_00FF) (at 10 9 ∷ []))
+    (ends-at-once trapped (0x2000_00FF ∷ 0x2000_0100 ∷ []) (0 ∷ []) 5 0x2000_00FF)
     ∷ []

@@ -4,7 +4,7 @@ use Prim.Native.Nat.{ℕ, zero, suc, _+_, _-_, _*_, _/_, _%_, _^_, min}
 use mathlib.Core.Bool.{cond}
 use mathlib.Core.List.{List}
 use lib.Dec.{ltb}
-use lib.IntN.{ℤ, pos, negsuc}
+use lib.IntN.{ℤ, pos, negsuc, subℕ}
 use lib.Signed.{shrZ}
 use lib.ListN.{getD, set}
 
@@ -24,6 +24,10 @@ wrap (negsuc n) = modulus - suc (n % modulus)
 -- "'Signed reading' is two's complement."
 unfoldable pub signed : ℕ → ℤ
 signed x = cond (ltb x 0x8000_0000) (pos x) (negsuc (modulus - suc x))
+
+-- the same of a number whose sign bit is worth `half`: from half on, less by twice that
+unfoldable pub signedFrom : ℕ → ℕ → ℤ
+signedFrom half x = cond (ltb x half) (pos x) (subℕ x (half + half))
 
 -- "An arithmetic shift divides the signed reading by 2^w, rounded down."
 unfoldable pub arithmeticShift : ℕ → ℕ → ℕ

@@ -2,12 +2,31 @@
 
 ghost use mathlib.Core.Path.{_≡_};
 ghost use Rattle.model.specs.Answers.{ruleNumber, endingNumber};
+ghost use Rattle.model.specs.Instructions.{widthRead};
 
 // How many bytes a load or store moves.
 pub enum Width {
     One,
     Two,
     Four,
+}
+
+// What a load reads and carries up: some bytes with zeros above them, or one or two with their sign.
+pub enum LoadWidth {
+    Unsigned { width: Width },
+    SignedOne,
+    SignedTwo,
+}
+
+// How many bytes it reads.
+pub fn width_read(width: LoadWidth) -> Width
+    ensures { λ r. ⌜ r ≡ widthRead width ⌝ }
+{
+    match width {
+        LoadWidth::Unsigned { width } => width,
+        LoadWidth::SignedOne => Width::One,
+        LoadWidth::SignedTwo => Width::Two,
+    }
 }
 
 // What a branch tests of its registers a and b: a = b, a < b unsigned, a < b signed.
@@ -59,7 +78,7 @@ pub enum Instruction {
     Load {
         a: u8,
         b: u8,
-        width: Width,
+        width: LoadWidth,
         imm: i32,
     },
     Store {

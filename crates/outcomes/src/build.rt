@@ -81,6 +81,20 @@ pub(crate) fn shift(op: u32, a: u32, w: u32) -> Ins {
     }
 }
 
+// Whether a width is one of those that carry the sign, which only a load takes.
+pub(crate) fn carries_sign(w: u32) -> bool {
+    w == 129 || w == 130
+}
+
+// How many bytes an access of width w reaches for.
+pub(crate) fn bytes(w: u32) -> u32 {
+    match w {
+        129 => 1,
+        130 => 2,
+        _ => w,
+    }
+}
+
 // Halt, which leaves nothing to build on.
 pub(crate) fn nothing() -> Ins {
     unary(0, 0)

@@ -17,6 +17,7 @@ use super::build::SHR;
 use super::build::STORE;
 use super::build::SUB;
 use super::build::binary;
+use super::build::bytes;
 use super::build::immediate;
 use super::build::nothing;
 use super::build::shift;
@@ -43,7 +44,7 @@ const POINTER: u32 = 7;
 
 const SMALL: u32 = 6;
 
-const WIDTHS: [u32; 4] = [1, 2, 4, 4];
+const WIDTHS: [u32; 4] = [1, 2, 2, 4];
 
 // A value that matters to some rule, or any.
 fn value(plan: Plan, seed: &mut u32) -> u32 {
@@ -58,10 +59,14 @@ fn value(plan: Plan, seed: &mut u32) -> u32 {
     }
 }
 
-// A displacement at or inside the guard's edges, for w bytes at a register that may lie `spent` bytes above the region.
-fn displacement(plan: Plan, seed: &mut u32, w: u32, spent: u32) -> u32 {
+// A displacement at or inside the guard's edges, for `count` bytes at a register that may lie `spent` bytes above the
+// region.
+fn displacement(plan: Plan, seed: &mut u32, count: u32, spent: u32) -> u32 {
     let past = if plan.miss == TOO_FAR { 1 } else { 0 };
-    let top = wrapping_sub_u32(wrapping_add_u32(plan.guard, 1), wrapping_add_u32(w, spent));
+    let top = wrapping_sub_u32(
+        wrapping_add_u32(plan.guard, 1),
+        wrapping_add_u32(count, spent),
+    );
     match below(seed, 8) {
         0 | 1 => wrapping_add_u32(top, past),
         2 | 3 => wrapping_sub_u32(0, wrapping_add_u32(plan.guard, past)),
@@ -70,18 +75,35 @@ fn displacement(plan: Plan, seed: &mut u32, w: u32, spent: u32) -> u32 {
     }
 }
 
-fn access(plan: Plan, seed: &mut u32, b: u32, spent: u32) -> Ins {
+// Three in four loads of 1 and 2 bytes carry the sign.
+fn width(plan: Plan, seed: &mut u32, op: u32) -> u32 {
     let w = if plan.guard < 3 {
         1
     } else {
         WIDTHS[wide(next(seed)) % 4]
     };
+    if op == LOAD && w < 4 && !one_in(seed, 4) {
+        wrapping_add_u32(w, 128)
+    } else {
+        w
+    }
+}
+
+// Where half the guard is above a byte, r6 is loaded too: its claim bears a byte, but not one that carries the sign.
+fn access(plan: Plan, seed: &mut u32, b: u32, spent: u32) -> Ins {
+    let op = LOAD + next(seed) % 2;
+    let w = width(plan, seed, op);
+    let a = if 511 < plan.guard && one_in(seed, 2) {
+        SMALL
+    } else {
+        below(seed, 6)
+    };
     Ins {
-        op: LOAD + next(seed) % 2,
-        a: below(seed, 6),
+        op,
+        a,
         b,
         w,
-        imm: displacement(plan, seed, w, spent),
+        imm: displacement(plan, seed, bytes(w), spent),
     }
 }
 
@@ -122,7 +144,7 @@ fn fresh(plan: Plan, seed: &mut u32) -> Ins {
         below(seed, 6)
     };
     let b = below(seed, 8);
-    match below(seed, 16) {
+    match below(seed, 18) {
         0 | 1 => immediate(SET, a, value(plan, seed)),
         2 | 3 => binary(COPY, a, POINTER),
         4 => binary(ADD, a, b),
@@ -132,7 +154,7 @@ fn fresh(plan: Plan, seed: &mut u32) -> Ins {
         8 => unary(GUARD, a),
         9 => shift(SHR, a, below(seed, 32)),
         10 => shift(SAR, a, below(seed, 32)),
-        11 | 12 | 13 => access(plan, seed, POINTER, plan.slack),
+        11 | 12 | 13 | 14 | 15 => access(plan, seed, POINTER, plan.slack),
         _ => branch(plan, seed, a),
     }
 }
@@ -163,7 +185,7 @@ fn from_access(plan: Plan, seed: &mut u32, before: Ins) -> Ins {
         return fresh(plan, seed);
     }
     let first = before.imm;
-    let past = wrapping_add_u32(first, wrapping_add_u32(before.w, plan.slack));
+    let past = wrapping_add_u32(first, wrapping_add_u32(bytes(before.w), plan.slack));
     let by = match below(seed, 6) {
         0 | 1 => first,
         2 => wrapping_sub_u32(first, 1),

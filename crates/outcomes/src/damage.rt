@@ -1,5 +1,6 @@
 // Damage to a module file, one part at a time: lengths and layouts at the edges, operands and doors just out of range.
 use super::build::Ins;
+use super::build::LOAD;
 use super::build::MOST;
 use super::build::claim;
 use super::build::door_at;
@@ -55,7 +56,10 @@ const A_MOST: [u32; 17] = [0, 7, 7, 7, 7, 7, 7, 7, 7, 7, 7, 7, 0, 7, 7, 7, 0];
 
 const B_MOST: [u32; 17] = [0, 0, 7, 7, 0, 7, 0, 0, 0, 0, 7, 7, 0, 7, 0, 0, 0];
 
-const W_MOST: [u32; 17] = [0, 0, 0, 0, 0, 0, 0, 0, 31, 31, 4, 4, 0, 2, 0, 0, 0];
+const W_MOST: [u32; 17] = [0, 0, 0, 0, 0, 0, 0, 0, 31, 31, 130, 4, 0, 2, 0, 0, 0];
+
+// Widths that carry the sign, and those beside them.
+const SIGNED: [u32; 8] = [129, 130, 129, 130, 129, 130, 128, 131];
 
 // Lengths that no field has, or none but a very long one.
 const LENGTHS: [u32; 4] = [0, 17476, 32776, 65535];
@@ -120,6 +124,23 @@ fn bend_instruction(buf: &mut [u8], plan: Plan, seed: &mut u32) {
     instruction(buf, i, bent);
 }
 
+// Such a width for whatever instruction stands there, or for a load or a store through r7 in its place.
+fn bend_width(buf: &mut [u8], plan: Plan, seed: &mut u32) {
+    let i = below(seed, plan.n);
+    let w = SIGNED[wide(next(seed)) % 8];
+    if one_in(seed, 2) {
+        return put(buf, instruction_at(i) + 3, w);
+    }
+    let bent = Ins {
+        op: LOAD + next(seed) % 2,
+        a: 0,
+        b: 7,
+        w,
+        imm: 0,
+    };
+    instruction(buf, i, bent);
+}
+
 fn bend_claim(buf: &mut [u8], plan: Plan, j: u32, seed: &mut u32) {
     let r = below(seed, 8);
     match below(seed, 4) {
@@ -147,7 +168,7 @@ pub(crate) fn damage(buf: &mut [u8], plan: Plan, seed: &mut u32, length: usize) 
     if !one_in(seed, 3) {
         return whole;
     }
-    match below(seed, 10) {
+    match below(seed, 12) {
         0 => put(buf, wide(next(seed)) % 1024 % (whole + 1), next(seed)),
         1 => return wide(next(seed)) % (whole + 1),
         2 => return whole + 1 + wide(next(seed)) % 8,
@@ -155,6 +176,7 @@ pub(crate) fn damage(buf: &mut [u8], plan: Plan, seed: &mut u32, length: usize) 
         4 => bend_length(buf, plan, seed),
         5 => bend_layout(buf, seed),
         6 | 7 => bend_instruction(buf, plan, seed),
+        8 | 9 => bend_width(buf, plan, seed),
         _ => bend_door(buf, plan, seed),
     }
     whole

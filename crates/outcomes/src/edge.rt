@@ -123,7 +123,8 @@ pub(crate) fn cut_row(score: &mut [u32; 4], op: u32, row: &[u32; 7]) {
 }
 
 // A row: w and imm of an access through r1, the lowest and highest of r1, and the number of the refusal, 0 for none.
-pub(crate) fn access_row(score: &mut [u32; 4], op: u32, row: &[u32; 5]) {
+// Door 2 claims 0 to `high` of r2, the register that is loaded or stored.
+pub(crate) fn access_row(score: &mut [u32; 4], op: u32, row: &[u32; 5], high: u32) {
     let x = Ins {
         op,
         a: 2,
@@ -140,5 +141,6 @@ pub(crate) fn access_row(score: &mut [u32; 4], op: u32, row: &[u32; 5]) {
     let mut buf = [0u8; 1024];
     write_code(&mut buf, DB, x, 2);
     write_doors(&mut buf, from, 2);
+    claim(&mut buf, 4, 2, 2, 0, high);
     asked(score, front(&buf, LENGTH), row[4], 1, 4, 3);
 }

@@ -3,6 +3,7 @@
 use super::limit;
 use super::order;
 use super::range;
+use super::sample;
 use super::score::report;
 use super::step;
 
@@ -38,6 +39,10 @@ const ENDS: u32 = 14;
 
 const OTHERS: u32 = 15;
 
+const SAMPLES: u32 = 16;
+
+const WIDTHS: u32 = 17;
+
 fn case(score: &mut [u32; 4], group: u32, i: usize) {
     match group {
         RULE_B => range::rule_b(score, i),
@@ -55,7 +60,9 @@ fn case(score: &mut [u32; 4], group: u32, i: usize) {
         ROOMS => step::rooms(score, i),
         DONE => step::done(score, i),
         ENDS => step::ends(score, i),
-        _ => step::others(score, i),
+        OTHERS => step::others(score, i),
+        SAMPLES => sample::samples(score, i),
+        _ => sample::widths(score, i),
     }
 }
 
@@ -71,9 +78,9 @@ fn group(words: &[u8], which: u32, rows: usize) {
 
 pub(crate) fn groups() {
     group(b"rule B", RULE_B, 31);
-    group(b"rule N and loads", RULE_N, 14);
-    group(b"rule N's cuts", CUTS, 43);
-    group(b"accesses at the guard's edges", ACCESSES, 16);
+    group(b"rule N and loads", RULE_N, 20);
+    group(b"rule N's cuts", CUTS, 55);
+    group(b"accesses at the guard's edges", ACCESSES, 28);
     group(b"rule W", RULE_W, 21);
     group(b"set, copy, andi and guard", MOVES, 15);
     group(b"shifts", SHIFTS, 12);
@@ -83,7 +90,9 @@ pub(crate) fn groups() {
     group(b"layouts", LAYOUTS, 20);
     group(b"limits of 4096 and 256", COUNTS, 9);
     group(b"room for the region", ROOMS, 6);
-    group(b"accesses that are done", DONE, 13);
-    group(b"accesses that end the run", ENDS, 14);
+    group(b"accesses that are done", DONE, 17);
+    group(b"accesses that end the run", ENDS, 27);
     group(b"jumps, tests and values", OTHERS, 26);
+    group(b"signed samples", SAMPLES, 26);
+    group(b"widths of loads and stores", WIDTHS, 38);
 }

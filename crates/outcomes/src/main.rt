@@ -15,6 +15,7 @@ mod ours;
 mod plan;
 mod random;
 mod range;
+mod sample;
 mod score;
 mod start;
 mod step;

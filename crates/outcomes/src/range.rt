@@ -12,6 +12,7 @@ use super::build::SET;
 use super::build::SHR;
 use super::build::STORE;
 use super::build::SUB;
+use super::build::carries_sign;
 use super::edge::DB;
 use super::edge::DL;
 use super::edge::access_row;
@@ -73,8 +74,8 @@ const RULE_B: [[u32; 13]; 31] = [
 ];
 
 // Which register is cut, and what is known of the loaded one: loads into another register and into the pointer, stores
-// of another register and of the pointer.
-const RULE_N: [[u32; 13]; 14] = [
+// of another register and of the pointer. After a load that carries the sign the range is anything.
+const RULE_N: [[u32; 13]; 20] = [
     [LOAD, 1, 1, 1, 0, DB, DL, 0, MOST, 0, 255, 0, MOST],
     [LOAD, 1, 1, 2, 0, DB, DL, 0, MOST, 0, 65535, 0, MOST],
     [LOAD, 1, 1, 4, 0, DB, DL, 0, MOST, 0, MOST, 0, MOST],
@@ -89,6 +90,12 @@ const RULE_N: [[u32; 13]; 14] = [
     [STORE, 1, 1, 1, 0, DB - 8, DL + 8, 5, 7, DB, DL, 5, 7],
     [STORE, 1, 1, 2, 4, DB, DL + 8, 5, 7, DB, DL - 5, 5, 7],
     [STORE, 1, 2, 2, 4, 5, 7, DB, DL + 8, 5, 7, DB, DL - 5],
+    [LOAD, 1, 1, 129, 0, DB, DL, 5, 5, 0, MOST, 5, 5],
+    [LOAD, 1, 1, 130, 0, DB, DL, 5, 5, 0, MOST, 5, 5],
+    [LOAD, 1, 1, 130, 4, DB, DL + 8, 5, 5, 0, MOST, 5, 5],
+    [LOAD, 2, 1, 129, 0, DB, DL, 5, 5, DB, DL, 0, MOST],
+    [LOAD, 2, 1, 130, 0, DB, DL, 5, 5, DB, DL - 1, 0, MOST],
+    [LOAD, 1, 2, 130, 4, 5, 5, DB, DL + 8, 0, MOST, DB, DL - 5],
 ];
 
 // Where the addresses end 256 bytes above the region.
@@ -98,8 +105,8 @@ const TOP: u32 = MOST - 511;
 // First each width at an imm of 0, 4 and -4, where both ends are cut. Then ranges that end at the cut or one beyond it,
 // and those of which it leaves one value or would leave none, up to the guard's edges. Then, in a region near 0 and in
 // one near 2^32, ends of the cut that are 0 or 2^32 - 1, one beyond, and far beyond: they neither wrap nor stop there.
-// Last the least imm and the largest.
-const CUTS: [[u32; 7]; 43] = [
+// Then the least imm and the largest. Last the widths that carry the sign, which count as 1 and 2.
+const CUTS: [[u32; 7]; 55] = [
     [DB, 1, 0, DB - 8, DL + 8, DB, DL],
     [DB, 2, 0, DB - 8, DL + 8, DB, DL - 1],
     [DB, 4, 0, DB - 8, DL + 8, DB, DL - 3],
@@ -143,6 +150,18 @@ const CUTS: [[u32; 7]; 43] = [
     [TOP, 2, 256, MOST - 1023, MOST - 257, MOST - 767, MOST - 513],
     [256, 1, HALF, HALF, HALF + 767, HALF + 256, HALF + 511],
     [TOP, 1, HALF - 1, HALF - 767, HALF, HALF - 511, HALF - 256],
+    [DB, 129, 0, DB - 8, DL + 8, DB, DL],
+    [DB, 130, 0, DB - 8, DL + 8, DB, DL - 1],
+    [DB, 129, 4, DB - 8, DL + 8, DB - 4, DL - 4],
+    [DB, 130, 4, DB - 8, DL + 8, DB - 4, DL - 5],
+    [DB, 129, MOST - 3, DB - 8, DL + 8, DB + 4, DL + 4],
+    [DB, 130, MOST - 3, DB - 8, DL + 8, DB + 4, DL + 3],
+    [DB, 129, 0, DL, DL + 8, DL, DL],
+    [DB, 129, 0, DL + 1, DL + 8, DL + 1, DL + 8],
+    [DB, 130, 0, DL - 1, DL + 8, DL - 1, DL - 1],
+    [DB, 130, 0, DL, DL + 8, DL, DL + 8],
+    [DB, 130, 0, DB - 8, DB, DB, DB],
+    [DB, 130, 0, DB - 8, DB - 1, DB - 8, DB - 1],
 ];
 
 // Sums and differences: neither end wraps, both do, one does.
@@ -344,8 +363,9 @@ const SHIFTS: [[u32; 13]; 12] = [
 ];
 
 // Each row: w and imm of an access through r1, the lowest and highest of r1, and the refusal, 0 for none. At the guard's
-// edges and one beyond; and exact sums, of which those that would wrap into the region are wild.
-const ACCESSES: [[u32; 5]; 16] = [
+// edges and one beyond; and exact sums, of which those that would wrap into the region are wild. 129 and 130 count as 1
+// and 2.
+const ACCESSES: [[u32; 5]; 28] = [
     [1, 256, DB, DL, 0],
     [1, 257, DB, DL, 10],
     [1, MOST - 255, DB, DL, 0],
@@ -362,6 +382,18 @@ const ACCESSES: [[u32; 5]; 16] = [
     [1, MOST, 0, 0, 10],
     [1, 0, DB, MOST, 10],
     [1, 0, 0, DL, 10],
+    [129, 256, DB, DL, 0],
+    [129, 257, DB, DL, 10],
+    [129, MOST - 255, DB, DL, 0],
+    [129, MOST - 256, DB, DL, 10],
+    [130, 255, DB, DL, 0],
+    [130, 256, DB, DL, 10],
+    [130, MOST - 255, DB, DL, 0],
+    [130, MOST - 256, DB, DL, 10],
+    [129, 0, DB - 256, DL + 256, 0],
+    [129, 0, DB - 256, DL + 257, 10],
+    [130, 0, DB - 256, DL + 255, 0],
+    [130, 0, DB - 257, DL + 255, 10],
 ];
 
 pub(crate) fn rule_b(score: &mut [u32; 4], i: usize) {
@@ -370,15 +402,17 @@ pub(crate) fn rule_b(score: &mut [u32; 4], i: usize) {
 }
 
 pub(crate) fn rule_n(score: &mut [u32; 4], i: usize) {
-    let row = RULE_N[i % 14];
+    let row = RULE_N[i % 20];
     range_row(score, &row);
 }
 
-// Every cut by a load and by a store.
+// Every cut by a load, and by a store where it takes the width.
 pub(crate) fn cuts(score: &mut [u32; 4], i: usize) {
-    let row = CUTS[i % 43];
+    let row = CUTS[i % 55];
     cut_row(score, LOAD, &row);
-    cut_row(score, STORE, &row);
+    if !carries_sign(row[1]) {
+        cut_row(score, STORE, &row);
+    }
 }
 
 pub(crate) fn rule_w(score: &mut [u32; 4], i: usize) {
@@ -396,9 +430,11 @@ pub(crate) fn shifts(score: &mut [u32; 4], i: usize) {
     range_row(score, &row);
 }
 
-// Every access as a load and as a store.
+// Every access as a load, and as a store where it takes the width.
 pub(crate) fn accesses(score: &mut [u32; 4], i: usize) {
-    let row = ACCESSES[i % 16];
-    access_row(score, LOAD, &row);
-    access_row(score, STORE, &row);
+    let row = ACCESSES[i % 28];
+    access_row(score, LOAD, &row, MOST);
+    if !carries_sign(row[0]) {
+        access_row(score, STORE, &row, MOST);
+    }
 }

@@ -58,11 +58,23 @@ pub(crate) fn asked(score: &mut [u32; 4], file: &[u8], number: u32, place: u32, 
     }
 }
 
-// One step that was made, or that ended the run, with this in r1 and r2 after it.
-pub(crate) fn stepped(x: Ran, code: u32, place: u32, r1: u32, r2: u32) -> bool {
-    let registers = x.registers;
-    let ended = !x.refused && x.code == code && x.steps == 1;
-    ended && x.place as u32 == place && registers[1] == r1 && registers[2] == r2
+// What is to be after a step: how it ends, the place, r0, r1 and r2, and a word of memory with its place.
+pub struct After {
+    pub code: u32,
+    pub place: u32,
+    pub r0: u32,
+    pub r1: u32,
+    pub r2: u32,
+    pub at: u32,
+    pub word: u32,
+}
+
+// One step that was made, or that ended the run. The memory is not looked at here.
+pub(crate) fn stepped(x: Ran, after: After) -> bool {
+    let held = x.registers;
+    let ended = !x.refused && x.code == after.code && x.steps == 1;
+    let there = ended && x.place as u32 == after.place;
+    there && held[0] == after.r0 && held[1] == after.r1 && held[2] == after.r2
 }
 
 // One step that was made, or, where the number is not 0, a run refused by it, of no steps.

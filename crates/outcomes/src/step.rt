@@ -9,6 +9,7 @@ use super::build::LOAD;
 use super::build::SAR;
 use super::build::SHR;
 use super::build::STORE;
+use super::build::carries_sign;
 use super::build::door;
 use super::build::front;
 use super::build::headers;
@@ -20,6 +21,7 @@ use super::build::wide;
 use super::edge::DB;
 use super::edge::DL;
 use super::ours;
+use super::score::After;
 use super::score::note;
 use super::score::roomed;
 use super::score::stepped;
@@ -31,13 +33,14 @@ const TURNED: u32 = 2;
 
 const STRAYED: u32 = 3;
 
-const SPENT: u32 = 4;
+pub const SPENT: u32 = 4;
 
 // What r2 holds before a load, and before most stores.
 const HELD: u32 = 2762187425;
 
-// The region's first word, and where it is in memory; the last is at LAST and holds the bytes 5, 6, 7, 8.
-const FIRST: u32 = 100;
+// The region's first word, in most of these steps, and where it is in memory; the last is at LAST and holds the bytes 5,
+// 6, 7, 8.
+pub const FIRST: u32 = 100;
 
 const ONE_TO_FOUR: u32 = 67305985;
 
@@ -56,38 +59,28 @@ fn write_module(buf: &mut [u8], x: Ins) {
     door(buf, 3, 1, 1, 0);
 }
 
-fn fresh() -> [u8; 400] {
+fn fresh(first: u32) -> [u8; 400] {
     let mut memory = [9u8; 400];
-    put_word(&mut memory, wide(FIRST), ONE_TO_FOUR);
+    put_word(&mut memory, wide(FIRST), first);
     put_word(&mut memory, wide(LAST), FIVE_TO_EIGHT);
     memory
 }
 
-// What is to be after a step: how it ends, the place, r1 and r2, and a word of memory with its place.
-struct After {
-    code: u32,
-    place: u32,
-    r1: u32,
-    r2: u32,
-    at: u32,
-    word: u32,
-}
-
-// One step of x from this in r1 and r2, over a fresh memory.
-fn step(score: &mut [u32; 4], x: Ins, r1: u32, r2: u32, after: After) {
+// One step of x from this in r1 and r2 and in the region's first word.
+pub(crate) fn step(score: &mut [u32; 4], x: Ins, r1: u32, r2: u32, first: u32, after: After) {
     let mut buf = [0u8; 1024];
     write_module(&mut buf, x);
-    let mut left = fresh();
-    let mut right = fresh();
-    let mut memory = fresh();
+    let mut left = fresh(first);
+    let mut right = fresh(first);
+    let mut memory = fresh(first);
     put_word(&mut memory, wide(after.at), after.word);
     let registers = [0, r1, r2, 0, 0, 0, 0, 0];
     let y = ours::step(front(&buf, LENGTH), registers, 0, &mut left, 100);
     let z = reference::run(front(&buf, LENGTH), registers, 0, &mut right, 100, 1);
     note(
         score,
-        stepped(y, after.code, after.place, after.r1, after.r2) && check::same(&left, &memory),
-        stepped(z, after.code, after.place, after.r1, after.r2) && check::same(&right, &memory),
+        stepped(y, after) && check::same(&left, &memory),
+        stepped(z, after) && check::same(&right, &memory),
     );
 }
 
@@ -102,7 +95,7 @@ fn access(op: u32, w: u32) -> Ins {
 }
 
 // Accesses that are done. Each row: op, w, the address, r2 after it, and a word of memory after it with its place.
-const DONE: [[u32; 6]; 13] = [
+const DONE: [[u32; 6]; 17] = [
     [LOAD, 1, DL, 8, FIRST, ONE_TO_FOUR],
     [LOAD, 2, DL - 1, 2055, FIRST, ONE_TO_FOUR],
     [LOAD, 4, DL - 3, FIVE_TO_EIGHT, FIRST, ONE_TO_FOUR],
@@ -116,25 +109,31 @@ const DONE: [[u32; 6]; 13] = [
     [STORE, 2, DB, HELD, FIRST, 67347105],
     [STORE, 4, DB, HELD, FIRST, HELD],
     [STORE, 4, DB, 16777216, FIRST, 16777216],
+    [LOAD, 129, DL, 8, FIRST, ONE_TO_FOUR],
+    [LOAD, 130, DL - 1, 2055, FIRST, ONE_TO_FOUR],
+    [LOAD, 129, DB, 1, FIRST, ONE_TO_FOUR],
+    [LOAD, 130, DB, 513, FIRST, ONE_TO_FOUR],
 ];
 
 pub(crate) fn done(score: &mut [u32; 4], i: usize) {
-    let row = DONE[i % 13];
+    let row = DONE[i % 17];
     let after = After {
         code: SPENT,
         place: 1,
+        r0: 0,
         r1: row[2],
         r2: row[3],
         at: row[4],
         word: row[5],
     };
     let held = if row[0] == STORE { row[3] } else { HELD };
-    step(score, access(row[0], row[1]), row[2], held, after);
+    let x = access(row[0], row[1]);
+    step(score, x, row[2], held, ONE_TO_FOUR, after);
 }
 
 // Accesses that end the run, into the guard and beyond it: the first byte at the lower edges, the last at the upper
 // ones. Each row: w, the address, and how it ends.
-const ENDS: [[u32; 3]; 14] = [
+const ENDS: [[u32; 3]; 27] = [
     [1, DL + 1, TRAPPED],
     [2, DL, TRAPPED],
     [4, DL - 2, TRAPPED],
@@ -149,21 +148,38 @@ const ENDS: [[u32; 3]; 14] = [
     [1, DB - 257, STRAYED],
     [4, DB - 257, STRAYED],
     [4, 4294967294, STRAYED],
+    [129, DL + 1, TRAPPED],
+    [130, DL, TRAPPED],
+    [129, DL + 256, TRAPPED],
+    [130, DL + 255, TRAPPED],
+    [129, DB - 1, TRAPPED],
+    [130, DB - 1, TRAPPED],
+    [129, DB - 256, TRAPPED],
+    [130, DB - 256, TRAPPED],
+    [129, DL + 257, STRAYED],
+    [130, DL + 256, STRAYED],
+    [129, DB - 257, STRAYED],
+    [130, DB - 257, STRAYED],
+    [130, 4294967295, STRAYED],
 ];
 
-// Each as a load and as a store.
+// Each as a load, and as a store where it takes the width.
 pub(crate) fn ends(score: &mut [u32; 4], i: usize) {
-    let row = ENDS[i % 14];
+    let row = ENDS[i % 27];
     let after = After {
         code: row[2],
         place: 0,
+        r0: 0,
         r1: row[1],
         r2: HELD,
         at: FIRST,
         word: ONE_TO_FOUR,
     };
-    step(score, access(LOAD, row[0]), row[1], HELD, after);
-    step(score, access(STORE, row[0]), row[1], HELD, after);
+    let w = row[0];
+    step(score, access(LOAD, w), row[1], HELD, ONE_TO_FOUR, after);
+    if !carries_sign(w) {
+        step(score, access(STORE, w), row[1], HELD, ONE_TO_FOUR, after);
+    }
 }
 
 // Each row: op, a, b, w, imm; r1 and r2 before the step; how it ends, the place and r1 after it.
@@ -241,12 +257,13 @@ pub(crate) fn others(score: &mut [u32; 4], i: usize) {
     let after = After {
         code: row[7],
         place: row[8],
+        r0: 0,
         r1: row[9],
         r2: row[6],
         at: FIRST,
         word: ONE_TO_FOUR,
     };
-    step(score, x, row[5], row[6], after);
+    step(score, x, row[5], row[6], ONE_TO_FOUR, after);
 }
 
 // Each row: how long the memory is, the offset of the region, and the refusal's number, 0 for none.
@@ -265,8 +282,8 @@ pub(crate) fn rooms(score: &mut [u32; 4], i: usize) {
     let offset = wide(row[1]);
     let mut buf = [0u8; 1024];
     write_module(&mut buf, unary(CHECK, 1));
-    let mut left = fresh();
-    let mut right = fresh();
+    let mut left = fresh(ONE_TO_FOUR);
+    let mut right = fresh(ONE_TO_FOUR);
     let y = ours::run(
         front(&buf, LENGTH),
         [0; 8],

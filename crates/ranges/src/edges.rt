@@ -5,15 +5,17 @@ use crate::knowledge::put;
 use crate::knowledge::range_of;
 use crate::sums;
 use model::Instruction;
+use model::LoadWidth;
 use model::Range;
 use model::Ranges;
 use model::Width;
 ghost use mathlib.Core.Path.{_≡_};
+ghost use Rattle.model.specs.declared.LoadWidth.the-variants.{Unsigned};
 ghost use Rattle.model.specs.Instructions.{loadRange, shape, ruleN, afterNext, afterTaken};
 
-// "0 to 2^(8w) − 1"
-fn load_range(width: Width) -> Range
-    ensures { λ r. ⌜ r ≡ loadRange width ⌝ }
+// "0 to 2^(8w) − 1", zero-extended
+fn unsigned_range(width: Width) -> Range
+    ensures { λ r. ⌜ r ≡ loadRange (Unsigned width) ⌝ }
 {
     match width {
         Width::One => Range { low: 0, high: 0xFF },
@@ -25,6 +27,17 @@ fn load_range(width: Width) -> Range
             low: 0,
             high: 0xFFFF_FFFF,
         },
+    }
+}
+
+// With the sign carried up, "Their range afterwards is anything.", which is what four bytes can hold.
+fn load_range(width: LoadWidth) -> Range
+    ensures { λ r. ⌜ r ≡ loadRange width ⌝ }
+{
+    match width {
+        LoadWidth::Unsigned { width } => unsigned_range(width),
+        LoadWidth::SignedOne => unsigned_range(Width::Four),
+        LoadWidth::SignedTwo => unsigned_range(Width::Four),
     }
 }
 
@@ -69,7 +82,7 @@ pub fn after_next(region: Range, instruction: Instruction, known: Ranges) -> Ran
         Instruction::Sar { a, amount } => put(known, a, bounds::sar(range_of(known, a), amount)),
         // "A load with a = b keeps the loaded range instead."
         Instruction::Load { a, b, width, imm } => put(
-            rule_n(region, b, width, imm, known),
+            rule_n(region, b, model::width_read(width), imm, known),
             a,
             load_range(width),
         ),

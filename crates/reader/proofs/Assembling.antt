@@ -27,10 +27,15 @@ pub row-is : (good : Bool) {x y i : Instruction} → (good ≡ true → y ≡ x)
 row-is true {x} {y} {i} same e = same refl ∙ Option·some-injective x i e
 row-is false {x} {y} {i} same e = absurd (Option·none-ne-some i e)
 
+-- and so of what is made of something looked up
+pub mapped-some : {A B : Type 0} (f : A → B) (o : Option A) {y i : B}
+    → ((v : A) → o ≡ some v → y ≡ f v) → Option·map f o ≡ some i → y ≡ i
+mapped-some f (some v) {y} {i} same e = same v refl ∙ Option·some-injective (f v) i e
+mapped-some f none {y} {i} same e = absurd (Option·none-ne-some i e)
+
 mapped-is : {A : Type 0} (good : Bool) (f : A → Instruction) (o : Option A) {y i : Instruction}
     → (good ≡ true → (v : A) → o ≡ some v → y ≡ f v) → provided good (Option·map f o) ≡ some i → y ≡ i
-mapped-is true f (some v) {y} {i} same e = same refl v refl ∙ Option·some-injective (f v) i e
-mapped-is true f none {y} {i} same e = absurd (Option·none-ne-some i e)
+mapped-is true f o same e = mapped-some f o (same refl) e
 mapped-is false f o {y} {i} same e = absurd (Option·none-ne-some i e)
 
 low-bits : (r : ℕ) → isRegister r ≡ true → r % 8 ≡ r

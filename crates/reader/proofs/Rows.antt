@@ -7,9 +7,11 @@ use mathlib.Core.Option.{Option, none, some, Option·map}
 use mathlib.Core.Path.{_≡_, refl, sym}
 use native.Mathlib.Omega.{arith}
 use lib.ListN.{length, getD, List·getD-eq-default}
+use borrow.Author.Tests.{ne-eqb}
 use Rattle.model.specs.declared.Instruction.{Instruction}
+use Rattle.model.specs.declared.LoadWidth.the-variants.{Unsigned}
 use Rattle.model.specs.Quantifiers.{anyOf}
-use Rattle.model.specs.File.{widthOf, testOf, provided, rows, decode}
+use Rattle.model.specs.File.{widthOf, loadWidthOf, testOf, provided, rows, decode}
 
 -- what the last arm of a match knows of x, where the arms before it name the numbers below n in order
 abbrev pub NoneBelow : ℕ → ℕ → Type 0
@@ -35,6 +37,14 @@ no-width (suc (suc zero)) others = absurd (others .0 .1 refl)
 no-width (suc (suc (suc zero))) others = refl
 no-width (suc (suc (suc (suc zero)))) others = absurd (others .1 refl)
 no-width (suc (suc (suc (suc (suc w))))) others = refl
+
+-- but for the two that a load alone has, its widths are those of a store
+pub unsigned-only : (w : ℕ) → (Unit {0} × (w ≡ 129 → ⊥)) × (w ≡ 130 → ⊥) → loadWidthOf w ≡ Option·map Unsigned (widthOf w)
+unsigned-only w others = rw (ne-eqb w 129 (others .0 .1), ne-eqb w 130 (others .1))
+
+pub any-mapped : {A B : Type 0} (f : A → B) (o : Option A) → anyOf o (λ v. true) ≡ anyOf (Option·map f o) (λ v. true)
+any-mapped f none = refl
+any-mapped f (some v) = refl
 
 pub is-test : (w : ℕ) → w < 3 → true ≡ anyOf (testOf w) (λ t. true)
 is-test zero below = refl

@@ -1,5 +1,6 @@
 // The decoder: "The opcode decides which of the bytes a, b, w and imm are used; unused ones are zero."
 use model::Instruction;
+use model::LoadWidth;
 use model::Test;
 use model::Width;
 ghost use mathlib.Core.Path.{_≡_};
@@ -8,10 +9,11 @@ ghost use mathlib.Core.Option.{some};
 ghost use Prim.Native.Nat.{ℕ, _+_, _≤_};
 ghost use lib.ListN.{length};
 ghost use Rattle.model.specs.declared.Instruction.{Instruction};
+ghost use Rattle.model.specs.declared.LoadWidth.{LoadWidth};
 ghost use Rattle.model.specs.declared.Test.{Test};
 ghost use Rattle.model.specs.declared.Width.{Width};
 ghost use Rattle.model.specs.Quantifiers.{anyOf};
-ghost use Rattle.model.specs.File.{isRegister, isAmount, hasNothing, hasA, hasAB, hasAAmount, hasImm, hasAImm, hasABWImm, widthOf, testOf, provided, decode, instructionAt, instructionIn};
+ghost use Rattle.model.specs.File.{isRegister, isAmount, hasNothing, hasA, hasAB, hasAAmount, hasImm, hasAImm, hasABWImm, widthOf, loadWidthOf, testOf, provided, decode, instructionAt, instructionIn};
 ghost use Rattle.reader.specs.Decoding.{instructionOf, Fetches};
 
 // The instruction, or that the bytes are none.
@@ -50,6 +52,17 @@ fn is_width(w: u8) -> bool
         2 => true,
         4 => true,
         _ => false,
+    }
+}
+
+// "Load gets two more widths: w 129 and w 130"
+fn is_load_width(w: u8) -> bool
+    ensures { λ x. ⌜ x ≡ anyOf (loadWidthOf w) (λ v. true) ⌝ }
+{
+    match w {
+        129 => true,
+        130 => true,
+        _ => is_width(w),
     }
 }
 
@@ -142,22 +155,14 @@ fn has_a_amount(a: u8, b: u8, w: u8, imm: u32) -> bool
     imm == 0
 }
 
-fn has_a_b_width_imm(a: u8, b: u8, w: u8) -> bool
-    ensures { λ x. ⌜ x ≡ hasABWImm a b && anyOf (widthOf w) (λ v. true) ⌝ }
+// Where w is a width or a test: `listed` says that it is one of those.
+fn has_a_b_listed_imm(a: u8, b: u8, listed: bool) -> bool
+    ensures { λ x. ⌜ x ≡ hasABWImm a b && listed ⌝ }
 {
     if !has_a_b_w_imm(a, b) {
         return false;
     }
-    is_width(w)
-}
-
-fn has_a_b_test_imm(a: u8, b: u8, w: u8) -> bool
-    ensures { λ x. ⌜ x ≡ hasABWImm a b && anyOf (testOf w) (λ t. true) ⌝ }
-{
-    if !has_a_b_w_imm(a, b) {
-        return false;
-    }
-    is_test(w)
+    listed
 }
 
 // The instruction, if its operands are as they should be.
@@ -171,7 +176,7 @@ fn when(good: bool, instruction: Instruction) -> Decoded
     }
 }
 
-// What w says, once it is known to be a width, or a test.
+// What w says, once it is known to be a width, a load's width, or a test.
 fn width_of(w: u8) -> Width
     ensures { λ x. ⌜ ((v : Width) → widthOf w ≡ some v → x ≡ v) ⌝ }
 {
@@ -179,6 +184,16 @@ fn width_of(w: u8) -> Width
         1 => Width::One,
         2 => Width::Two,
         _ => Width::Four,
+    }
+}
+
+fn load_width_of(w: u8) -> LoadWidth
+    ensures { λ x. ⌜ ((v : LoadWidth) → loadWidthOf w ≡ some v → x ≡ v) ⌝ }
+{
+    match w {
+        129 => LoadWidth::SignedOne,
+        130 => LoadWidth::SignedTwo,
+        _ => LoadWidth::Unsigned { width: width_of(w) },
     }
 }
 
@@ -220,16 +235,16 @@ pub fn decode(op: u8, a: u8, b: u8, w: u8, imm: u32) -> Decoded
             Instruction::Sar { a, amount: w },
         ),
         10 => when(
-            has_a_b_width_imm(a, b, w),
+            has_a_b_listed_imm(a, b, is_load_width(w)),
             Instruction::Load {
                 a,
                 b,
-                width: width_of(w),
+                width: load_width_of(w),
                 imm: words::arithmetic::to_signed(imm),
             },
         ),
         11 => when(
-            has_a_b_width_imm(a, b, w),
+            has_a_b_listed_imm(a, b, is_width(w)),
             Instruction::Store {
                 a,
                 b,
@@ -239,7 +254,7 @@ pub fn decode(op: u8, a: u8, b: u8, w: u8, imm: u32) -> Decoded
         ),
         12 => when(has_imm(a, b, w), Instruction::Jump { to: imm as usize }),
         13 => when(
-            has_a_b_test_imm(a, b, w),
+            has_a_b_listed_imm(a, b, is_test(w)),
             Instruction::Branch {
                 a,
                 b,
@@ -277,7 +292,7 @@ fn assemble(op: u8, first: u8, second: u8, w: u8, imm: u32) -> Instruction
         10 => Instruction::Load {
             a,
             b,
-            width: width_of(w),
+            width: load_width_of(w),
             imm: words::arithmetic::to_signed(imm),
         },
         11 => Instruction::Store {

@@ -3,6 +3,7 @@
 ghost use Prim.Native.Nat.{_<_};
 use super::field::Layout;
 use super::read::Ins;
+use super::read::bytes;
 use super::read::low;
 use super::read::wide;
 
@@ -120,6 +121,7 @@ fn guarded(x: Span, l: Layout) -> Span {
     }
 }
 
+// After widths 129 and 130: "Their range afterwards is anything."
 fn loaded(w: u32) -> Span {
     match w {
         1 => Span { lo: 0, hi: 255 },
@@ -128,19 +130,19 @@ fn loaded(w: u32) -> Span {
     }
 }
 
-// Rule N's cut as ticket 1 of document 02 has it, none where it would be empty: all w bytes from exact b + imm on lie in
-// the region. The ends are compared as sums with imm, so that none wraps.
+// Rule N's cut as tickets 1 and 2 of document 02 have it, none where it would be empty: all bytes from exact b + imm on
+// lie in the region. The ends are compared as sums with imm, so that none wraps.
 fn reached(i: Ins, y: Span, l: Layout) -> Span {
     let imm = raised(i.imm);
-    let w = wide(i.w);
+    let count = wide(bytes(i.w));
     let floor = 4294967296 + wide(l.base);
     let end = floor + wide(l.size);
     let lowest = wide(y.lo) + imm;
-    let highest = wide(y.hi) + imm + w;
-    if highest < floor + w {
+    let highest = wide(y.hi) + imm + count;
+    if highest < floor + count {
         return y;
     }
-    if end < lowest + w {
+    if end < lowest + count {
         return y;
     }
     let lo = if lowest < floor {
@@ -149,7 +151,7 @@ fn reached(i: Ins, y: Span, l: Layout) -> Span {
         y.lo
     };
     let hi = if end < highest {
-        low(end - w - imm)
+        low(end - count - imm)
     } else {
         y.hi
     };

@@ -25,7 +25,7 @@ const A_MOST: [u32; 16] = [0, 7, 7, 7, 7, 7, 7, 7, 7, 7, 7, 7, 0, 7, 7, 7];
 
 const B_MOST: [u32; 16] = [0, 0, 7, 7, 0, 7, 0, 0, 0, 0, 7, 7, 0, 7, 0, 0];
 
-const W_MOST: [u32; 16] = [0, 0, 0, 0, 0, 0, 0, 0, 31, 31, 4, 4, 0, 2, 0, 0];
+const W_MOST: [u32; 16] = [0, 0, 0, 0, 0, 0, 0, 0, 31, 31, 130, 4, 0, 2, 0, 0];
 
 const IMM_MOST: [u32; 16] = [
     0,
@@ -51,6 +51,15 @@ fn above(most: &[u32; 16], op: usize, operand: u32) -> bool {
     most[op % 16] < operand
 }
 
+// The widths of an access; a store takes none that carries the sign.
+fn width_listed(op: usize, w: u32) -> bool {
+    match w {
+        1 | 2 | 4 => true,
+        129 | 130 => op == 10,
+        _ => false,
+    }
+}
+
 fn readable(x: Ins) -> bool {
     let op = wide(x.op);
     if 15 < op {
@@ -69,7 +78,7 @@ fn readable(x: Ins) -> bool {
         return false;
     }
     if op == 10 || op == 11 {
-        return x.w != 0 && x.w != 3;
+        return width_listed(op, x.w);
     }
     true
 }

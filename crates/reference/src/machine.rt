@@ -7,6 +7,7 @@ use super::know::sar;
 use super::read::Ins;
 use super::read::KIND;
 use super::read::byte;
+use super::read::bytes;
 use super::read::fetch;
 use super::read::half;
 use super::read::low;
@@ -49,10 +50,21 @@ fn store(region: &mut [u8], at: usize, w: u32, v: u32) {
     poke(region, i + 3, v / 16777216);
 }
 
+// The signed reading of v, one of so many values, with its sign carried up through 32 bits.
+fn signed(v: u32, values: u32) -> u32 {
+    if v < values / 2 {
+        v
+    } else {
+        std::num::wrapping_sub_u32(v, values)
+    }
+}
+
 fn fetched(region: &[u8], at: usize, w: u32) -> u32 {
     match w {
         1 => byte(region, at),
         2 => half(region, at),
+        129 => signed(byte(region, at), 256),
+        130 => signed(half(region, at), 65536),
         _ => word(region, at),
     }
 }
@@ -113,12 +125,12 @@ fn holds(w: u32, x: u32, y: u32) -> bool {
     }
 }
 
-// How an access ends: done, trapped or strayed.
-fn reach(address: u32, w: u32, l: Layout) -> u32
+// How an access to so many bytes ends: done, trapped or strayed.
+fn reach(address: u32, count: u32, l: Layout) -> u32
     ensures { λ r. ⌜ Ending r ⌝ }
 {
     let from = wide(address);
-    let to = from + wide(w);
+    let to = from + wide(count);
     let base = wide(l.base);
     let end = base + wide(l.size);
     let guard = wide(l.guard);
@@ -135,7 +147,7 @@ fn access(i: Ins, l: Layout, n: usize, place: usize, regs: &mut [u32; 8], region
     ensures { λ r. ⌜ Ending (r .ending) ⌝ }
 {
     let address = std::num::wrapping_add_u32(register(regs, i.b), i.imm);
-    let ending = reach(address, i.w, l);
+    let ending = reach(address, bytes(i.w), l);
     if ending != ON {
         return Out { ending, place };
     }

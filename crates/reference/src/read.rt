@@ -16,6 +16,13 @@ pub(crate) struct Ins {
     pub(crate) imm: u32,
 }
 
+// How many bytes an access of width w reaches for. The widths that carry the sign are 128 above their count.
+pub(crate) fn bytes(w: u32) -> u32
+    ensures { λ r. ⌜ r ≡ w % 128 ⌝ }
+{
+    w % 128
+}
+
 pub(crate) fn wide(x: u32) -> usize
     ensures { λ r. ⌜ r < 4294967296 ⌝ }
 {

@@ -12,6 +12,7 @@ use super::load::Found;
 use super::read::DOOR;
 use super::read::Ins;
 use super::read::KIND;
+use super::read::bytes;
 use super::read::entry;
 use super::read::fetch;
 use super::read::plane;
@@ -107,7 +108,7 @@ fn wild(x: Ins, b: Span, l: Layout) -> bool {
     }
     let floor = 4294967296 + wide(l.base);
     let lowest = wide(b.lo) + raised(x.imm);
-    let highest = wide(b.hi) + raised(x.imm) + wide(x.w);
+    let highest = wide(b.hi) + raised(x.imm) + wide(bytes(x.w));
     lowest + wide(l.guard) < floor || floor + wide(l.size) + wide(l.guard) < highest
 }
 

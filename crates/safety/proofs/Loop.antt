@@ -17,7 +17,7 @@ use Rattle.model.specs.Obligations.{Fault, firstFault, eachFrom}
 use Rattle.model.specs.Answers.{Judgement}
 use Rattle.model.specs.Ranges.{ruleW, guardRange, cut, between, liesWithin}
 use Rattle.model.specs.Program.{Program, targetAt}
-use Rattle.model.specs.Instructions.{guarded, shape, ruleN, afterNext, afterTaken}
+use Rattle.model.specs.Instructions.{carried, guarded, shape, ruleN, afterNext, afterTaken}
 use Rattle.model.specs.Step.{inRegion, inZones, accessing, effect, addressesFrom, settle, stepOf, step}
 use Rattle.model.specs.File.{isListed, field, isLayout, rows, decode, instructionIn, tabulate, claimIn, targetIn, isGoodTarget, fieldValue, readable, programOf, programIn}
 use Rattle.model.specs.Judgement.{knownAt, isReachable, isChecked, isContained, accessContained, jumpsToTarget, staysInside, takenKept, nextKept, beforeNext, atIndex, verified, obligations, firstBroken, judgement}
@@ -88,7 +88,7 @@ loop-fed = record {
 
 -- the calls' answers
 unfoldable walked : List Seen
-unfolding loop verdict walk walkCall hostWrites run step stepOf settle effect accessing guarded wrap inRegion inZones addressesFrom splice seenIn
+unfolding loop verdict walk walkCall hostWrites run step stepOf settle effect accessing carried guarded wrap inRegion inZones addressesFrom splice seenIn
 walked = seenIn (walk (programIn loop) start zeros (calling 3 ∷ calling 2 ∷ []))
 
 pub loop-walked : LoopWalked

@@ -14,7 +14,7 @@ use Rattle.model.specs.declared.Layout.{Layout}
 use Rattle.model.specs.declared.Machine.{Machine}
 use Rattle.model.specs.declared.Ranges.{Ranges}
 use Rattle.model.specs.Program.{Program, isTarget, isIndirect}
-use Rattle.model.specs.Instructions.{Access, Shape, stops, assigns, loads, stores, jumps, branches, checks, jumpsVia, traits}
+use Rattle.model.specs.Instructions.{Access, loadAccess, Shape, stops, assigns, loads, stores, jumps, branches, checks, jumpsVia, traits}
 use Rattle.model.specs.Step.{Effect, goesOn, goesTo, goesVia, ends, reaches, Landing, nowhere, named, viaRegister, Step, moves, settle, shapeAt, stepOf, step}
 use Rattle.model.specs.File.{programIn}
 use Rattle.model.specs.Judgement.{knownAt}
@@ -48,7 +48,8 @@ module _ {l : Layout} (kept : LayoutKept l) {k : Ranges} {rs : List ℕ} (within
   reaches-zones : (s : Shape) → Sound l s → AccessAllowed l s k → AllInZones l (reaches (traits s .access) rs)
   reaches-zones stops sound allowed at among = absurd (List·Memᴰ·not-nil among)
   reaches-zones (assigns a value ranged) sound allowed at among = absurd (List·Memᴰ·not-nil among)
-  reaches-zones (loads a ac) sound allowed at among = access-reaches (loads a ac) a ac sound allowed refl at among
+  reaches-zones (loads a b v imm) sound allowed at among =
+      access-reaches (loads a b v imm) a (loadAccess b v imm) sound allowed refl at among
   reaches-zones (stores a ac) sound allowed at among = access-reaches (stores a ac) a ac sound allowed refl at among
   reaches-zones (jumps to) sound allowed at among = absurd (List·Memᴰ·not-nil among)
   reaches-zones (branches test a b to) sound allowed at among = absurd (List·Memᴰ·not-nil among)

@@ -138,7 +138,12 @@ fn access_contained(layout: Layout, instruction: Instruction, known: Ranges) -> 
             b,
             width,
             imm,
-        } => is_contained(layout, knowledge::range_of(known, b), width, imm),
+        } => is_contained(
+            layout,
+            knowledge::range_of(known, b),
+            model::width_read(width),
+            imm,
+        ),
         Instruction::Store {
             a: _,
             b,

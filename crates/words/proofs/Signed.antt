@@ -1,19 +1,19 @@
 -- The signed reading of a word and back: the machine's reading is the definition's, the two ways of the code to a reading and to
--- a word give it, by cases at the sign, and a shift by more than 31 is one by 31. Assumes nothing.
+-- a word give it, by cases at the sign, a sign is carried up exactly, and a shift by more than 31 is one by 31. Assumes nothing.
 use Prim.Native.Nat.{ℕ, zero, suc, _+_, _-_, _%_, _^_, _≤_, _<_, min}
 use mathlib.Core.Bool.{Bool, true, false, cond}
 use mathlib.Core.Path.{_≡_, refl, ap, sym, subst, _∙_}
 use native.Mathlib.Nat.{zero-add, div-eq-of-lt, pow-le-pow-right, lt-of-lt-of-le}
 use native.Mathlib.Omega.{arith}
-use borrow.Author.Tests.{le-ltb, le-leb, leb-true, leb-false}
+use borrow.Author.Tests.{lt-ltb, le-ltb, ltb-true, le-leb, leb-true, leb-false}
 use lib.Dec.{T, leb, ltb}
-use lib.IntN.{ℤ, pos, negsuc, natAbs, _+ℤ_, _-ℤ_}
+use lib.IntN.{ℤ, pos, negsuc, natAbs, _+ℤ_, _-ℤ_, subℕ}
 use lib.Signed.{mag, leZ, nonNeg, shrZ, mag-shr}
 use mir.Syntax.{w32}
 use mir.Val.{Fits, SFits, ofZ, toZ, sel}
 use mir.ValLaws.{toZ-ofZ, toZ-pos, toZ-fits, sfits-le}
-use Rattle.model.specs.Words.{modulus, wrap, signed, arithmeticShift}
-use Rattle.model.proofs.Tests.{cond-false}
+use Rattle.model.specs.Words.{modulus, wrap, signed, signedFrom, arithmeticShift}
+use Rattle.model.proofs.Tests.{by-cond, cond-false}
 use Rattle.words.proofs.Wrapping.{displaced-wraps}
 
 -- the machine's reading of a word is the definition's
@@ -140,3 +140,40 @@ shift-is-arithmetic x w k r z fits made bounded word =
 pub displaced-is : (x u r : ℕ) (by : ℤ) → SFits w32 by → u ≡ wrap (toZ w32 (ofZ w32 by)) → r ≡ (x + u) % 2 ^ 32 → r ≡ wrap (pos x +ℤ by)
 displaced-is x u r by fit word made =
     made ∙ ap (λ (n : ℕ). (x + n) % 2 ^ 32) (word ∙ ap wrap (toZ-ofZ w32 by fit)) ∙ displaced-wraps x by
+
+-- ---- a sign that is carried up
+
+positive-less : (a b : ℕ) → pos a -ℤ pos b ≡ subℕ a b
+positive-less a zero =
+    by-cond (λ (z : ℤ). pos (a + 0) ≡ z) (ltb a 0) (λ t. absurd (omega (arith, ltb-true a 0 t))) (λ _. ap pos (omega arith))
+positive-less a (suc b) = refl
+
+-- a number of two bytes below its sign bit is its own reading
+pub sign-clear : (x half : ℕ) → x < 0x1_0000 → x < half → x ≡ wrap (signedFrom half x)
+unfolding signedFrom wrap
+sign-clear x half x-fits below = rw (lt-ltb x half below) (omega arith)
+
+-- and from there on the code takes twice the sign bit's worth away, exactly
+module _ (x half : ℕ) (x-fits : x < 0x1_0000) (half-fits : half < 0x1_0000) where
+  twice : toZ w32 half +ℤ toZ w32 half ≡ pos (half + half)
+  twice = rw (toZ-pos w32 half (omega arith))
+
+  pub twice-fits : SFits w32 (toZ w32 half +ℤ toZ w32 half)
+  twice-fits = rw twice (record { sfits = omega arith })
+
+  less-twice : toZ w32 x -ℤ toZ w32 (ofZ w32 (toZ w32 half +ℤ toZ w32 half)) ≡ subℕ x (half + half)
+  less-twice =
+      rw (toZ-pos w32 x (omega arith), toZ-ofZ w32 (toZ w32 half +ℤ toZ w32 half) twice-fits, twice) (positive-less x (half + half))
+
+  pub less-twice-fits : SFits w32 (toZ w32 x -ℤ toZ w32 (ofZ w32 (toZ w32 half +ℤ toZ w32 half)))
+  less-twice-fits =
+      rw less-twice
+      (by-cond (SFits w32) (ltb x (half + half)) (λ _. record { sfits = omega arith }) (λ _. record { sfits = omega arith }))
+
+  pub sign-carried : half ≤ x → (r : ℕ)
+      → r ≡ wrap (toZ w32 (ofZ w32 (toZ w32 x -ℤ toZ w32 (ofZ w32 (toZ w32 half +ℤ toZ w32 half)))))
+      → r ≡ wrap (signedFrom half x)
+  unfolding signedFrom
+  sign-carried set r made =
+      made ∙ ap wrap (toZ-ofZ w32 _ less-twice-fits ∙ less-twice)
+      ∙ ap wrap (sym (cond-false (ltb x half) (pos x) (subℕ x (half + half)) (le-ltb x half set)))

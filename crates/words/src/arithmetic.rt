@@ -3,7 +3,7 @@ ghost use mathlib.Core.Path.{_≡_};
 ghost use Prim.Native.Nat.{_/_, _^_, min};
 ghost use lib.IntN.{pos, _+ℤ_, subℕ};
 ghost use lib.Signed.{ltZ};
-ghost use Rattle.model.specs.Words.{wrap, signed, arithmeticShift, bitwiseAnd};
+ghost use Rattle.model.specs.Words.{wrap, signed, signedFrom, arithmeticShift, bitwiseAnd};
 
 // The signed reading of a word.
 pub fn to_signed(x: u32) -> i32
@@ -25,6 +25,16 @@ fn to_unsigned(x: i32) -> u32
     } else {
         0xFFFF_FFFF - ((-1 - x) as u32)
     }
+}
+
+// A number whose sign bit is worth `half`, by its signed reading, as a word: its sign is carried up.
+pub fn carry_sign(x: u16, half: u16) -> u32
+    ensures { λ r. ⌜ r ≡ wrap (signedFrom half x) ⌝ }
+{
+    if x < half {
+        return x as u32;
+    }
+    to_unsigned(x as i32 - (half as i32 + half as i32))
 }
 
 // A shift by 31 leaves the sign alone, and so does every longer one.

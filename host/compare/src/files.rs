@@ -1,8 +1,9 @@
 //! One generated file: what `read` and `verify` answer.
 
 use crate::difference::hexadecimal;
+use crate::signed::Seen;
 use crate::tally::Tally;
-use modules::generate::{generate, Generated};
+use modules::generate::{generate, Generated, Origin};
 use modules::random::Random;
 use sides::{verify_by_earlier_rule_n, Side, Verdict};
 
@@ -23,8 +24,13 @@ fn judge(generated: &Generated, tally: &mut Tally) -> Result<(), String> {
     as_made(generated.origin.accepted(), verified)?;
     as_made(generated.origin.accepted_earlier(), earlier)
         .map_err(|what| format!("by rule N as it was: {what}"))?;
+    let seen = Seen::of(file, verified);
+    if generated.origin == Origin::Signed && !seen.is_turned() {
+        return Err("made to be accepted without the sign, but is not".into());
+    }
     tally.count_module(generated.origin, read, verified);
     tally.count_turn(generated.origin, verified, earlier);
+    tally.count_signed(generated.origin, &seen);
     Ok(())
 }
 

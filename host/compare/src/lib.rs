@@ -1,14 +1,17 @@
 //! Compares the proved library with the hand-written one on generated modules and lists of runs.
 
+mod by_origin;
 mod counts;
 mod difference;
 mod files;
 mod lists;
 mod plan;
+mod signed;
 mod tally;
 mod turns;
 
 pub use difference::Difference;
+pub use signed::Seen;
 pub use tally::Tally;
 
 use difference::guarded;

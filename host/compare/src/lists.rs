@@ -3,6 +3,7 @@
 use crate::difference::hexadecimal;
 use crate::files::same;
 use crate::plan::{self, Call};
+use crate::signed::without_sign;
 use crate::tally::Tally;
 use modules::generate::{generate_from, Generated, Origin};
 use modules::random::Random;
@@ -18,11 +19,12 @@ pub fn compare_list(seed: u64, case: u64, tally: &mut Tally) -> Result<(), Strin
     let mut random = Random::for_case(seed ^ 0x6c69_7374, case);
     let origin = match random.below(50) {
         0..=27 => Origin::Valid,
-        28..=41 => Origin::Near,
-        42..=45 => Origin::Damaged,
-        46 | 47 => Origin::Narrowed,
-        48 => Origin::EmptyN,
-        _ => Origin::EmptyB,
+        28..=40 => Origin::Near,
+        41..=44 => Origin::Damaged,
+        45 | 46 => Origin::Narrowed,
+        47 => Origin::EmptyN,
+        48 => Origin::EmptyB,
+        _ => Origin::Signed,
     };
     let generated = generate_from(origin, &mut random);
     let mut list = List::new(&mut random, &generated);
@@ -50,6 +52,8 @@ struct List<'a> {
     handwritten: State,
     /// The region's size, if the file is readable.
     size: Option<usize>,
+    /// The file with the loads of one width not carrying the sign up, and that width.
+    without_sign: Vec<(u8, Vec<u8>)>,
     /// The module is accepted, and wherever the host sets the machine, it is to an indirect target.
     safe: bool,
 }
@@ -58,6 +62,10 @@ impl List<'_> {
     fn new<'a>(random: &mut Random, generated: &'a Generated) -> List<'a> {
         let read = Side::Proved.read(&generated.file);
         let size = read.ok().map(|[_, size, ..]| size as usize);
+        let without_sign = match read {
+            Ok(_) => without_sign(&generated.file).collect(),
+            Err(_) => Vec::new(),
+        };
         let length = plan::memory_length(random, size.unwrap_or(4096));
         let mut memory = vec![0; length];
         memory.fill_with(|| random.byte());
@@ -72,6 +80,7 @@ impl List<'_> {
             proved: state.clone(),
             handwritten: state,
             size,
+            without_sign,
             safe,
         }
     }
@@ -133,7 +142,20 @@ impl List<'_> {
         }
         self.look_at_steps(ran, call)?;
         tally.count_call(ran, self.safe && ran.is_ok());
+        for (width, file) in &self.without_sign {
+            if self.ends_otherwise(file, &before, ran, call) {
+                tally.count_signed_run(*width);
+            }
+        }
         Ok(())
+    }
+
+    /// Whether a call of another file has another outcome.
+    fn ends_otherwise(&self, file: &[u8], before: &State, ran: Ran, mut call: Call) -> bool {
+        let mut state = before.clone();
+        // A run that ends by itself may not do so with another file.
+        call.budget = call.budget.min(KNOWN_TO_END);
+        make_on(Side::HandWritten, file, &mut state, call) != ran || state != self.handwritten
     }
 
     /// The same bytes on both sides, and no other than before outside the region.

@@ -1,5 +1,5 @@
 //! `compare [SEED [MODULES [LISTS]]]`: compares the proved library with the hand-written one, and fails if anything
-//! differs or if a refusal, an ending or a wanted turn of a verdict never occurred.
+//! differs or if a refusal, an ending, a wanted turn of a verdict or a wanted kind of signed load never occurred.
 
 use compare::{compare, SEED};
 use std::env;
@@ -24,7 +24,7 @@ fn main() -> ExitCode {
     print!("{tally}");
     let missing = tally.missing();
     if missing.is_empty() {
-        println!("no difference; every refusal, every ending and every wanted turn occurred");
+        println!("no difference; every refusal, ending, wanted turn and wanted kind of signed load occurred");
         ExitCode::SUCCESS
     } else {
         println!("NEVER OCCURRED: {}", missing.join(", "));

@@ -32,7 +32,7 @@ pub fn machine(random: &mut Random, module: &Module, at_indirect: bool) -> Machi
     let pc = if at_indirect {
         indirect_pc(random, module)
     } else {
-        any_pc(random, module.code.len())
+        any_pc(random, module)
     };
     if let Some(&instruction) = module.code.get(usize::from(pc)) {
         if random.chance(70) {
@@ -60,7 +60,7 @@ fn put_at_a_limit(
     instruction: Instruction,
     registers: &mut [u32; 8],
 ) {
-    let Instruction { op, w, imm, .. } = instruction;
+    let Instruction { op, imm, .. } = instruction;
     let a = usize::from(instruction.a % 8);
     let b = usize::from(instruction.b % 8);
     let beside = random.within(-1..=1) as i32;
@@ -71,7 +71,7 @@ fn put_at_a_limit(
             let zones = (base.wrapping_sub(guard), end.wrapping_add(guard));
             let limit = random.pick(&[base, end, zones.0, zones.1, 0]);
             // Where the first byte or the one after the last is at the limit.
-            let back = random.pick(&[0, u32::from(w)]);
+            let back = random.pick(&[0, u32::from(instruction.bytes())]);
             let address = limit.wrapping_sub(back).wrapping_add_signed(beside);
             registers[b] = address.wrapping_sub(imm);
         }
@@ -111,15 +111,27 @@ fn register(random: &mut Random, module: &Module) -> u32 {
     }
 }
 
-fn any_pc(random: &mut Random, instructions: usize) -> u16 {
+fn any_pc(random: &mut Random, module: &Module) -> u16 {
+    let instructions = module.code.len();
     let last = instructions as u16 - 1;
+    let any = random.below(instructions) as u16;
     match random.below(24) {
         0..=5 => last,
         6 | 7 => last + 1,
         8 => random.number() as u16,
         9 => u16::MAX,
-        _ => random.below(instructions) as u16,
+        10..=13 => signed_load(random, module).unwrap_or(any),
+        _ => any,
     }
+}
+
+/// The index of a load that carries the sign up, if there is one.
+fn signed_load(random: &mut Random, module: &Module) -> Option<u16> {
+    let loads = (0..)
+        .zip(&module.code)
+        .filter(|(_, one)| one.is_signed_load());
+    let indexes: Vec<u16> = loads.map(|(index, _)| index).collect();
+    (!indexes.is_empty()).then(|| random.pick(&indexes))
 }
 
 pub fn call(random: &mut Random, memory_length: usize, size: usize) -> Call {

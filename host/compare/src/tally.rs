@@ -1,7 +1,8 @@
-//! How often each refusal, each ending and each turn of a verdict occurred, so that nothing is believed compared that
-//! never happened.
+//! How often each refusal, each ending, each turn of a verdict and each kind of signed load occurred, so that nothing
+//! is believed compared that never happened.
 
 use crate::counts::Counts;
+use crate::signed::{Seen, Signed};
 use crate::turns::Turns;
 use madsjirn::{Ending, Rule};
 use modules::generate::Origin;
@@ -14,6 +15,7 @@ pub struct Tally {
     /// Modules by origin, in the order of `Origin::ALL`, and how many of them were accepted.
     modules: [(u64, u64); Origin::ALL.len()],
     turns: Turns,
+    signed: Signed,
     /// Refusals by number; 0 counts what was not refused.
     read: Counts,
     verify: Counts,
@@ -41,6 +43,16 @@ impl Tally {
         self.turns.count(origin, verified, earlier);
     }
 
+    /// Counts what a file shows of loads that carry the sign up.
+    pub fn count_signed(&mut self, origin: Origin, seen: &Seen) {
+        self.signed.count(origin, seen);
+    }
+
+    /// Counts a run that would end otherwise if the loads of this width didn't carry the sign up.
+    pub fn count_signed_run(&mut self, width: u8) {
+        self.signed.count_run(width);
+    }
+
     pub fn count_list(&mut self) {
         self.lists += 1;
     }
@@ -56,7 +68,7 @@ impl Tally {
         }
     }
 
-    /// The refusals, endings and turns that never occurred.
+    /// The refusals, endings, turns and kinds of signed loads that never occurred.
     pub fn missing(&self) -> Vec<String> {
         let refusals = Rule::ALL.into_iter().filter(|rule| {
             let times = self.refusals(rule.number());
@@ -68,6 +80,7 @@ impl Tally {
             .map(|rule| rule.to_string())
             .chain(endings.map(|ending| ending.to_string()))
             .chain(self.turns.missing())
+            .chain(self.signed.missing())
             .collect()
     }
 
@@ -167,7 +180,9 @@ impl fmt::Display for Tally {
     fn fmt(&self, out: &mut fmt::Formatter<'_>) -> fmt::Result {
         self.write_modules(out)?;
         self.turns.fmt(out)?;
+        self.signed.write_modules(out)?;
         self.write_lists(out)?;
+        self.signed.write_runs(out)?;
         self.write_refusals(out)?;
         self.write_endings(out)
     }

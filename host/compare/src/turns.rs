@@ -1,9 +1,9 @@
 //! The verdicts that document 02's ticket 1 turns: another by rule N as it was. They are counted by how the modules were
 //! made, since that says whose cut is empty; the verdicts don't.
 
+use crate::by_origin::ByOrigin;
 use modules::generate::Origin;
 use sides::Verdict;
-use std::collections::BTreeMap;
 use std::fmt;
 
 /// How a verdict is turned.
@@ -49,32 +49,28 @@ const WANTED: [(Turn, Origin); 6] = [
     (Turn::Refused(11), Origin::EmptyB),
 ];
 
-/// How often each turn occurred, by origin in the order of `Origin::ALL`.
+/// How often each turn occurred.
 #[derive(Default)]
-pub struct Turns(BTreeMap<Turn, [u64; Origin::ALL.len()]>);
+pub struct Turns(ByOrigin<Turn>);
 
 impl Turns {
     pub fn count(&mut self, origin: Origin, now: Verdict, earlier: Verdict) {
         if let Some(turn) = Turn::of(now, earlier) {
-            self.0.entry(turn).or_default()[origin as usize] += 1;
+            self.0.count(turn, origin);
         }
-    }
-
-    fn of(&self, turn: Turn, origin: Origin) -> u64 {
-        self.0.get(&turn).map_or(0, |times| times[origin as usize])
     }
 
     /// The wanted ones that never occurred.
     pub fn missing(&self) -> impl Iterator<Item = String> + '_ {
         let missing = WANTED.into_iter();
-        let missing = missing.filter(|&(turn, origin)| self.of(turn, origin) == 0);
+        let missing = missing.filter(|(turn, origin)| self.0.of(turn, *origin) == 0);
         missing.map(|(turn, origin)| format!("{turn} ({})", origin.name()))
     }
 }
 
 impl fmt::Display for Turns {
     fn fmt(&self, out: &mut fmt::Formatter<'_>) -> fmt::Result {
-        let turned: u64 = self.0.values().flatten().sum();
+        let turned = self.0.all();
         writeln!(
             out,
             "{turned} modules have another verdict by rule N as it was, cutting to the region at imm 0 alone."
@@ -83,18 +79,6 @@ impl fmt::Display for Turns {
             out,
             "By how they were made: in \"empty N\" and \"empty B\" it is that rule's cut that is now empty."
         )?;
-        write!(out, "{:<30}", "")?;
-        for origin in Origin::ALL {
-            write!(out, " {:>9}", origin.name())?;
-        }
-        writeln!(out, " {:>9}", "all")?;
-        for (turn, times) in &self.0 {
-            write!(out, "  {turn:<28}")?;
-            for times in times {
-                write!(out, " {times:>9}")?;
-            }
-            writeln!(out, " {:>9}", times.iter().sum::<u64>())?;
-        }
-        Ok(())
+        self.0.fmt(out)
     }
 }

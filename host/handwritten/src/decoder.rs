@@ -2,6 +2,9 @@
 
 use crate::reader::Instruction;
 
+/// The bit of a load's w that says to carry the sign up.
+pub(crate) const SIGN: u8 = 128;
+
 /// An instruction, decoded straight from its bytes and only as far as it is asked for.
 /// The masks never matter to judged code; they spare the checks on what they index.
 #[derive(Clone, Copy)]
@@ -26,6 +29,18 @@ impl Decoder<'_> {
     #[inline(always)]
     pub fn w(self) -> u8 {
         self.0[3]
+    }
+
+    /// How many bytes a load or store moves.
+    #[inline(always)]
+    pub fn bytes(self) -> u8 {
+        self.w() & !SIGN
+    }
+
+    /// Whether a load carries the sign up.
+    #[inline(always)]
+    pub fn is_signed(self) -> bool {
+        self.w() & SIGN != 0
     }
 
     #[inline(always)]

@@ -32,9 +32,9 @@ impl Ground {
 
     /// How an access outside the region ends.
     #[cold]
-    fn missed(&self, address: u32, width: u8) -> Ending {
+    fn missed(&self, address: u32, bytes: u8) -> Ending {
         let Layout { base, size, guard } = self.layout;
-        let reach = size + 2 * guard - u32::from(width);
+        let reach = size + 2 * guard - u32::from(bytes);
         if address.wrapping_sub(base - guard) <= reach {
             Ending::Trapped
         } else {
@@ -56,9 +56,11 @@ impl Ground {
         // The last instruction, which can only go on to the next index.
         let Layout { base, size, .. } = self.layout;
         let ins = Decoder(instruction);
-        let (address, w) = (registers[ins.b()].wrapping_add(ins.imm()), ins.w());
+        let (address, bytes) = (registers[ins.b()].wrapping_add(ins.imm()), ins.bytes());
         let ending = match ins.op() {
-            10 | 11 if address.wrapping_sub(base) > size - u32::from(w) => self.missed(address, w),
+            10 | 11 if address.wrapping_sub(base) > size - u32::from(bytes) => {
+                self.missed(address, bytes)
+            }
             14 if !has(&self.indirect, registers[ins.a()]) => Ending::Denied,
             _ => Ending::Violated,
         };
@@ -160,10 +162,13 @@ pub(crate) fn run(parts: &Parts, machine: &mut Machine, region: &mut [u8], budge
                 let value = match ins.w() {
                     1 => region.get(at).map(|&byte| u32::from(byte)),
                     2 => load(region, at).map(|bytes| u32::from(u16::from_le_bytes(bytes))),
-                    _ => load(region, at).map(u32::from_le_bytes),
+                    4 => load(region, at).map(u32::from_le_bytes),
+                    // These casts carry the sign up.
+                    129 => load(region, at).map(|bytes| i8::from_le_bytes(bytes) as u32),
+                    _ => load(region, at).map(|bytes| i16::from_le_bytes(bytes) as u32),
                 };
                 let Some(value) = value else {
-                    break ground.missed(address, ins.w());
+                    break ground.missed(address, ins.bytes());
                 };
                 registers[ins.a()] = value;
             }
@@ -177,7 +182,7 @@ pub(crate) fn run(parts: &Parts, machine: &mut Machine, region: &mut [u8], budge
                     _ => store(region, at, value),
                 };
                 if done.is_none() {
-                    break ground.missed(address, ins.w());
+                    break ground.missed(address, ins.bytes());
                 }
             }
             13 if !holds(ins.w(), registers[ins.a()], registers[ins.b()]) => {}

@@ -1,5 +1,6 @@
 //! The file's form: three fields, the layout, every instruction, every target.
 
+use crate::decoder::SIGN;
 use crate::{Accepted, Refusal};
 
 pub(crate) const MAX_INSTRUCTIONS: usize = 4096;
@@ -117,6 +118,7 @@ const fn forbidden_table() -> [u64; 128] {
     const B: u64 = 7 << 16;
     const SHIFT: u64 = 31 << 24;
     const WIDTH: u64 = 7 << 24;
+    const SIGNED_WIDTH: u64 = WIDTH | (SIGN as u64) << 24;
     const IMM: u64 = 0xFFFF_FFFF << 32;
     let mut table = [0; 128];
     let mut key = 0;
@@ -128,8 +130,9 @@ const fn forbidden_table() -> [u64; 128] {
             2 | 3 | 5 => A | B,
             7 | 14 | 15 => A,
             8 | 9 => A | SHIFT,
+            // Four bytes have no sign to carry up.
+            10 if w != 4 => A | B | SIGNED_WIDTH | IMM,
             12 => IMM,
-            13 => A | B | WIDTH | IMM,
             _ => A | B | WIDTH | IMM,
         };
         let bad_width = match key & 15 {

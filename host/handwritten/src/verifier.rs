@@ -105,13 +105,13 @@ fn common(first: Range, other: Range) -> Range {
     cut(first, low(other).into(), high(other).into())
 }
 
-/// Rule N: an access of `w` bytes at b + imm that isn't trapped begins from DB to DL - w + 1.
+/// Rule N: an access of so many bytes at b + imm that isn't trapped begins from DB to DL - bytes + 1.
 /// `EARLIER` chooses the rule as it was: DB to DL, and only where imm is 0.
 #[inline(always)]
-fn rule_n<const EARLIER: bool>(b: Range, imm: i64, w: u8, first: u32, last: u32) -> Range {
+fn rule_n<const EARLIER: bool>(b: Range, imm: i64, bytes: u8, first: u32, last: u32) -> Range {
     let (least, most) = (i64::from(first) - imm, i64::from(last) - imm);
     if !EARLIER {
-        cut(b, least, most - i64::from(w) + 1)
+        cut(b, least, most - i64::from(bytes) + 1)
     } else if imm == 0 {
         cut(b, least, most)
     } else {
@@ -189,7 +189,7 @@ pub(crate) fn verify<const EARLIER: bool>(parts: &Parts) -> Result<(), Refusal> 
             let signed = i64::from(imm as i32);
             let reaches = |x: Range| {
                 let from = i64::from(low(x)) + signed;
-                let to = i64::from(high(x)) + signed + i64::from(w);
+                let to = i64::from(high(x)) + signed + i64::from(ins.bytes());
                 from >= least && to <= most
             };
             match op {
@@ -237,15 +237,19 @@ pub(crate) fn verify<const EARLIER: bool>(parts: &Parts) -> Result<(), Refusal> 
                     if !reaches(ranges[b]) {
                         return refuse(10, i);
                     }
-                    ranges[b] = rule_n::<EARLIER>(ranges[b], signed, w, base, last);
+                    ranges[b] = rule_n::<EARLIER>(ranges[b], signed, ins.bytes(), base, last);
                     // After the cut, so that a load into b keeps the loaded range.
-                    ranges[a] = range(0, u32::MAX >> ((32 - 8 * u32::from(w)) & 31));
+                    ranges[a] = if ins.is_signed() {
+                        ANYTHING
+                    } else {
+                        range(0, u32::MAX >> ((32 - 8 * u32::from(w)) & 31))
+                    };
                 }
                 11 => {
                     if !reaches(ranges[b]) {
                         return refuse(10, i);
                     }
-                    ranges[b] = rule_n::<EARLIER>(ranges[b], signed, w, base, last);
+                    ranges[b] = rule_n::<EARLIER>(ranges[b], signed, ins.bytes(), base, last);
                 }
                 13 => {
                     let Some(aim) = lookup.find(imm) else {

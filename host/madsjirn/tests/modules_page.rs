@@ -25,7 +25,7 @@ fn page() -> String {
 
 #[test]
 fn examples_are_judged_as_the_page_says() {
-    assert_eq!(judge_page(&page()).len(), 5, "modules on the page");
+    assert_eq!(judge_page(&page()).len(), 6, "modules on the page");
 }
 
 #[test]
@@ -53,25 +53,34 @@ fn each_refusal_and_each_ending_has_its_row() {
 #[test]
 fn runs_end_as_the_page_says() {
     let modules = judge_page(&page());
-    let [of_the_loop, of_two_samples, of_the_counted, ..] = &modules[..] else {
+    let [of_the_loop, of_two_samples, of_the_lowest, of_the_counted, ..] = &modules[..] else {
         panic!("too few modules on the page");
     };
     assert_eq!(*of_the_loop, bytes_of("crates/gate/stdin"));
-    let (run, machine) = run_of(of_the_loop);
+    let (run, machine) = run_of(of_the_loop, &[]);
     assert_eq!((run.ending, run.steps), (Ending::Trapped, 3_074));
     assert_eq!((machine.pc, machine.registers[1]), (1, 0x2000_1000));
-    let (run, machine) = run_of(of_two_samples);
+    let (run, machine) = run_of(of_two_samples, &[]);
     assert_eq!((run.ending, run.steps), (Ending::Trapped, 4_098));
     assert_eq!((machine.pc, machine.registers[1]), (1, 0x2000_1000));
-    let (run, _) = run_of(of_the_counted);
+    let (run, machine) = run_of(of_the_lowest, &[]);
+    assert_eq!((run.ending, run.steps), (Ending::Trapped, 10_242));
+    assert_eq!((machine.pc, machine.registers[1]), (1, 0x2000_1000));
+    let samples = [5_i16, -3, 2].map(i16::to_le_bytes);
+    let (_, machine) = run_of(of_the_lowest, samples.as_flattened());
+    assert_eq!(machine.registers[3], 0xFFFF_FFFD);
+    let (run, _) = run_of(of_the_counted, &[]);
     assert_eq!((run.ending, run.steps), (Ending::Halted, 50));
 }
 
-/// A run from pc 0 with every register 0, and the machine that it leaves.
-fn run_of(file: &[u8]) -> (Run, Machine) {
+/// A run from pc 0 with every register 0 and some bytes at the beginning of a region of zeros, and the machine that it
+/// leaves.
+fn run_of(file: &[u8], bytes: &[u8]) -> (Run, Machine) {
     let module = verify(file).expect("the module is accepted");
     let mut machine = Machine::default();
-    let run = module.run(&mut machine, &mut [0; 4096], 0, u32::MAX);
+    let mut region = [0; 4096];
+    region[..bytes.len()].copy_from_slice(bytes);
+    let run = module.run(&mut machine, &mut region, 0, u32::MAX);
     (run.expect("the run is made"), machine)
 }
 

@@ -1,6 +1,6 @@
 //! Instructions by name, and labels for their targets.
 
-use crate::encode::{op, Instruction, Layout, Module, Range, Target};
+use crate::encode::{op, Instruction, Layout, Module, Range, Target, SIGN};
 
 const fn instruction(op: u8, a: u8, b: u8, w: u8, imm: u32) -> Instruction {
     Instruction { op, a, b, w, imm }
@@ -38,6 +38,10 @@ pub fn sar(a: u8, w: u8) -> Instruction {
 }
 pub fn load(a: u8, b: u8, w: u8, imm: i32) -> Instruction {
     instruction(op::LOAD, a, b, w, imm as u32)
+}
+/// A load of 1 or 2 bytes that carries the sign up: width 129 or 130.
+pub fn load_signed(a: u8, b: u8, bytes: u8, imm: i32) -> Instruction {
+    load(a, b, SIGN | bytes, imm)
 }
 pub fn store(a: u8, b: u8, w: u8, imm: i32) -> Instruction {
     instruction(op::STORE, a, b, w, imm as u32)

@@ -48,6 +48,22 @@ pub struct Instruction {
     pub imm: u32,
 }
 
+impl Instruction {
+    /// How many bytes it moves, if it is a load or store: for widths 129 and 130 of document 02's ticket 2 these are
+    /// 1 and 2.
+    pub const fn bytes(self) -> u8 {
+        self.w & !SIGN
+    }
+
+    /// Whether it is a load that carries the sign up, of any width.
+    pub const fn is_signed_load(self) -> bool {
+        self.op == op::LOAD && self.w & SIGN != 0
+    }
+}
+
+/// What a load's w has beside its bytes if it carries the sign up.
+pub const SIGN: u8 = 128;
+
 /// The opcodes of document 01's table.
 pub mod op {
     pub const HALT: u8 = 0;
@@ -160,6 +176,14 @@ impl Module {
         });
         file
     }
+}
+
+/// Where the instructions stand in a file that no rule before 6 refuses.
+pub fn code_bounds(file: &[u8]) -> std::ops::Range<usize> {
+    // Behind the layout's field, and a header whose last two bytes are their length.
+    let begin = 3 + 12 + 3;
+    let length = u16::from_le_bytes([file[begin - 2], file[begin - 1]]);
+    begin..begin + usize::from(length)
 }
 
 fn put_field(file: &mut Vec<u8>, tag: u8, put_value: impl FnOnce(&mut Vec<u8>)) {

@@ -1,8 +1,8 @@
 //! Files for the gate program, each with the line that it must print. The first are document 01's known outcomes, then
-//! those of document 02's ticket 1; the others break the rules of document 01's table one by one.
+//! those of document 02's tickets 1 and 2; the others break the rules of document 01's table one by one.
 
-use crate::assembler::{addi, halt, jump, jumpr};
-use crate::encode::Module;
+use crate::assembler::{addi, guard, halt, jump, jumpr, load, load_signed, store};
+use crate::encode::{claim, Instruction, Module, Target};
 use crate::rule_n::turned;
 use crate::samples::{document_loop, largest};
 
@@ -16,6 +16,7 @@ pub struct Case {
 pub fn cases() -> Vec<Case> {
     let mut cases = known_outcomes();
     cases.extend(turned().map(|one| case(one.name, one.module.to_bytes(), one.now)));
+    cases.extend(signed_loads());
     cases.extend(refused_fields());
     cases.extend(trailing_bytes());
     cases.extend(refused_tables());
@@ -45,6 +46,42 @@ fn known_outcomes() -> Vec<Case> {
         case("empty", Vec::new(), "refused 1 0"),
         case("largest", largest().to_bytes(), "accepted 4096 256"),
     ]
+}
+
+/// Document 01's loop with samples of one byte, and a claim that these lie in 0 to 255.
+fn signed_loads() -> Vec<Case> {
+    let with = |access: Instruction, guard: u32| {
+        move |m: &mut Module| {
+            m.code[1] = access;
+            m.layout.guard = guard;
+        }
+    };
+    let signed = load_signed(0, 1, 1, 0);
+    vec![
+        changed("signed-load", "accepted 4 2", with(signed, 256)),
+        changed("signed-guard-4", "accepted 4 2", with(signed, 4)),
+        changed("signed-guard-3", "refused 10 1", with(signed, 3)),
+        changed(
+            "signed-store",
+            "refused 6 1",
+            with(store(0, 1, 129, 0), 256),
+        ),
+        changed(
+            "signed-word",
+            "refused 6 1",
+            with(load_signed(0, 1, 4, 0), 256),
+        ),
+        claimed("signed-claim", "refused 11 1", signed),
+        claimed("unsigned-claim", "accepted 3 2", load(0, 1, 1, 0)),
+    ]
+}
+
+/// A case with a claim of 0 to 255 for r0 after a load.
+fn claimed(name: &'static str, line: &'static str, sample: Instruction) -> Case {
+    let byte = Target::direct(2, claim(&[(0, (0, 255))]));
+    let code = [guard(1), sample, halt()];
+    let module = Module::known(&code, &[Target::indirect(0), byte]);
+    case(name, module.to_bytes(), line)
 }
 
 /// The loop's fields begin at 0, 15 and 50.

@@ -1,7 +1,7 @@
-//! The ranges that the generator follows, so that it knows what it may write next. Rules W and B of document 01, and
-//! rule N of document 02's ticket 1.
+//! The ranges that the generator follows, so that it knows what it may write next. Rules W and B of document 01, and of
+//! document 02 rule N of ticket 1 and the loads of ticket 2.
 
-use crate::encode::{op, test, Instruction, Layout, Range, ANYTHING};
+use crate::encode::{op, test, Instruction, Layout, Range, ANYTHING, SIGN};
 
 pub type Ranges = [Range; 8];
 
@@ -33,8 +33,8 @@ fn rule_w(lowest: i64, highest: i64) -> Range {
 }
 
 /// The lowest and the highest address at which so many bytes begin that are all in the region.
-pub fn begins(layout: Layout, width: u8) -> (i64, i64) {
-    let last = i64::from(layout.last()) + 1 - i64::from(width);
+pub fn begins(layout: Layout, bytes: u8) -> (i64, i64) {
+    let last = i64::from(layout.last()) + 1 - i64::from(bytes);
     (layout.first().into(), last)
 }
 
@@ -48,10 +48,10 @@ pub enum RuleN {
 }
 
 impl RuleN {
-    /// The pointer's range after an access that moves `width` bytes.
-    fn after(self, layout: Layout, pointer: Range, width: u8, displacement: i64) -> Range {
+    /// The pointer's range after an access that moves so many bytes.
+    fn after(self, layout: Layout, pointer: Range, bytes: u8, displacement: i64) -> Range {
         let (lowest, highest) = match self {
-            RuleN::Now => begins(layout, width),
+            RuleN::Now => begins(layout, bytes),
             RuleN::Earlier if displacement == 0 => begins(layout, 1),
             RuleN::Earlier => return pointer,
         };
@@ -60,10 +60,10 @@ impl RuleN {
     }
 }
 
-/// The displacements that keep rule 10 for a width and a pointer's range, lowest and highest.
-pub fn displacements(layout: Layout, pointer: Range, width: u8) -> Option<(i32, i32)> {
+/// The displacements that keep rule 10 for so many bytes and a pointer's range, lowest and highest.
+pub fn displacements(layout: Layout, pointer: Range, bytes: u8) -> Option<(i32, i32)> {
     let guard = i64::from(layout.guard);
-    let (first, last) = begins(layout, width);
+    let (first, last) = begins(layout, bytes);
     let lowest = (first - guard - i64::from(pointer.0)).max(i32::MIN.into());
     let highest = (last + guard - i64::from(pointer.1)).min(i32::MAX.into());
     (lowest <= highest).then_some((lowest as i32, highest as i32))
@@ -92,14 +92,22 @@ pub fn after(
         op::SHR => ranges[a] = (ranges[a].0 >> w, ranges[a].1 >> w),
         op::SAR => ranges[a] = after_sar(ranges[a], w),
         op::LOAD | op::STORE => {
-            ranges[b] = rule_n.after(layout, ranges[b], w, displacement);
+            ranges[b] = rule_n.after(layout, ranges[b], instruction.bytes(), displacement);
             if op == op::LOAD {
-                ranges[a] = (0, u32::MAX >> (32 - 8 * w));
+                ranges[a] = loaded(w);
             }
         }
         _ => {}
     }
     ranges
+}
+
+fn loaded(width: u8) -> Range {
+    if width & SIGN == 0 {
+        (0, u32::MAX >> (32 - 8 * width))
+    } else {
+        ANYTHING
+    }
 }
 
 fn after_sar(range: Range, w: u8) -> Range {

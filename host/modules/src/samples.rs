@@ -82,7 +82,7 @@ fn block_end(block: u32) -> [Instruction; 3] {
     }
 }
 
-/// A module that never ends: arithmetic, guards, loads and stores of all widths, branches of all tests, taken and
+/// A module that never ends: arithmetic, guards, loads and stores of 1, 2 and 4 bytes, branches of all tests, taken and
 /// not taken as the data falls out, and indirect jumps to one of two targets.
 ///
 /// r1 is the pointer. Masking it leaves room above for the displaced accesses, and it stays a multiple of 4,

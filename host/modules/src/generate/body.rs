@@ -1,5 +1,6 @@
 //! The instructions inside a block, and those that bring the ranges within a claim.
 
+use super::access::{any_bytes, load_or_store};
 use super::claims::Claims;
 use crate::assembler::*;
 use crate::encode::{op, Instruction, Layout, ANYTHING};
@@ -80,14 +81,13 @@ fn near_an_end(random: &mut Random, ranges: &Ranges) -> u32 {
 
 /// A load or store through a register whose range allows it, or a guard where none does.
 fn access(random: &mut Random, block: &Block) -> Instruction {
-    let width = random.pick(&[1, 2, 4]);
+    let bytes = any_bytes(random);
     for _ in 0..6 {
         let (a, b) = (random.register(), random.register());
         let pointer = block.ranges[usize::from(b)];
-        if let Some((lowest, highest)) = displacements(block.layout, pointer, width) {
+        if let Some((lowest, highest)) = displacements(block.layout, pointer, bytes) {
             let imm = displacement(random, lowest, highest);
-            let make = random.pick(&[load, store]);
-            return make(a, b, width, imm);
+            return load_or_store(random, a, b, bytes, imm);
         }
     }
     guard(random.register())

@@ -1,6 +1,7 @@
 //! Generated files: accepted ones, ones that break a rule by a hair, damaged ones, and ones whose verdict depends on
-//! document 02's ticket 1.
+//! document 02.
 
+mod access;
 mod body;
 mod claims;
 mod damage;
@@ -27,16 +28,19 @@ pub enum Origin {
     EmptyN,
     /// Refused, and accepted by rule N as it was: a cut of rule B is empty now.
     EmptyB,
+    /// Refused, and accepted if a load did not carry the sign up.
+    Signed,
 }
 
 impl Origin {
-    pub const ALL: [Origin; 6] = [
+    pub const ALL: [Origin; 7] = [
         Origin::Valid,
         Origin::Near,
         Origin::Damaged,
         Origin::Narrowed,
         Origin::EmptyN,
         Origin::EmptyB,
+        Origin::Signed,
     ];
 
     pub fn name(self) -> &'static str {
@@ -47,6 +51,7 @@ impl Origin {
             Origin::Narrowed => "narrowed",
             Origin::EmptyN => "empty N",
             Origin::EmptyB => "empty B",
+            Origin::Signed => "signed",
         }
     }
 
@@ -54,7 +59,7 @@ impl Origin {
     pub fn accepted(self) -> Option<bool> {
         match self {
             Origin::Valid | Origin::Narrowed => Some(true),
-            Origin::EmptyN | Origin::EmptyB => Some(false),
+            Origin::EmptyN | Origin::EmptyB | Origin::Signed => Some(false),
             Origin::Near | Origin::Damaged => None,
         }
     }
@@ -64,7 +69,7 @@ impl Origin {
         match self {
             Origin::Narrowed => Some(false),
             Origin::EmptyN | Origin::EmptyB => Some(true),
-            Origin::Valid | Origin::Near | Origin::Damaged => None,
+            Origin::Valid | Origin::Near | Origin::Damaged | Origin::Signed => None,
         }
     }
 }
@@ -81,11 +86,12 @@ pub struct Generated {
 pub fn generate(random: &mut Random) -> Generated {
     let origin = match random.below(100) {
         0..=27 => Origin::Valid,
-        28..=74 => Origin::Near,
-        75..=93 => Origin::Damaged,
-        94 | 95 => Origin::Narrowed,
-        96 | 97 => Origin::EmptyN,
-        _ => Origin::EmptyB,
+        28..=72 => Origin::Near,
+        73..=91 => Origin::Damaged,
+        92 | 93 => Origin::Narrowed,
+        94 | 95 => Origin::EmptyN,
+        96 | 97 => Origin::EmptyB,
+        _ => Origin::Signed,
     };
     generate_from(origin, random)
 }
@@ -97,6 +103,7 @@ pub fn generate_from(origin: Origin, random: &mut Random) -> Generated {
         Origin::Narrowed => turned::narrowed(random),
         Origin::EmptyN => turned::empty_n(random),
         Origin::EmptyB => turned::empty_b(random),
+        Origin::Signed => turned::signed(random),
     };
     if origin == Origin::Near {
         near::break_rules(random, &mut module);

@@ -95,7 +95,8 @@ fn layouts() {
     }
 }
 
-/// What an opcode's row of document 01's table says: the highest a and b, the values of w, and whether imm is used.
+/// What an opcode's row of document 01's table says, and for a load document 02's ticket 2: the highest a and b, the
+/// values of w, and whether imm is used.
 fn row(opcode: u8) -> (u8, u8, Vec<u8>, bool) {
     match opcode {
         op::HALT => (0, 0, vec![0], false),
@@ -103,7 +104,8 @@ fn row(opcode: u8) -> (u8, u8, Vec<u8>, bool) {
         op::COPY | op::ADD | op::SUB => (7, 7, vec![0], false),
         op::GUARD | op::CHECK | op::JUMPR => (7, 0, vec![0], false),
         op::SHR | op::SAR => (7, 0, (0..32).collect(), false),
-        op::LOAD | op::STORE => (7, 7, vec![1, 2, 4], true),
+        op::LOAD => (7, 7, vec![1, 2, 4, 129, 130], true),
+        op::STORE => (7, 7, vec![1, 2, 4], true),
         op::JUMP => (0, 0, vec![0], true),
         op::BRANCH => (7, 7, vec![0, 1, 2], true),
         _ => (0, 0, vec![], false),

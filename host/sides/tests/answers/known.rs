@@ -1,5 +1,5 @@
 //! The known outcomes of document 01 that are about modules and runs, and the gate program's files, whose lines come
-//! from document 01 too.
+//! from the documents too.
 
 use crate::both::{line, read, run, step, verify};
 use modules::assembler::*;

@@ -1,5 +1,5 @@
-//! Exact answers, the same of both sides: document 01's known outcomes, what document 02's ticket 1 turns, a file for
-//! each refusal, each ending, and the files that the gate program is tried on.
+//! Exact answers, the same of both sides: document 01's known outcomes, what document 02's ticket 1 turns and what its
+//! ticket 2 adds, a file for each refusal, each ending, and the files that the gate program is tried on.
 
 mod both;
 mod claims;
@@ -7,3 +7,4 @@ mod form;
 mod known;
 mod rule_n;
 mod runs;
+mod signed;

@@ -2,7 +2,7 @@
 
 use crate::both::{line, step, verify};
 use modules::assembler::*;
-use modules::encode::{claim, Instruction, Layout, Module, Range, Target};
+use modules::encode::{claim, Instruction, Layout, Module, Range, Target, ANYTHING};
 use modules::rule_n::turned;
 use modules::samples::document_loop;
 use sides::ending::OUT_OF_BUDGET;
@@ -82,7 +82,11 @@ fn every_displacement_and_width() {
             let short = u32::from(width) - 1;
             let (first, last) = (layout.first(), layout.last() - short);
             let reach = (moved(first - layout.guard), moved(last + layout.guard));
-            for access in [load(0, 1, width, imm), store(0, 1, width, imm)] {
+            let mut accesses = vec![load(0, 1, width, imm), store(0, 1, width, imm)];
+            if width < 4 {
+                accesses.push(load_signed(0, 1, width, imm));
+            }
+            for access in accesses {
                 leaves(layout, access, reach, (moved(first), moved(last)));
             }
         }
@@ -133,6 +137,8 @@ fn empty_cuts_are_not_made() {
     let (first, last) = layout.region();
     for (access, whole) in [
         (load(0, 1, 4, 0), (last - 2, last + 9)),
+        (load_signed(0, 1, 2, 0), (last, last + 9)),
+        (load_signed(0, 1, 1, 0), (last + 1, last + 9)),
         (store(0, 1, 2, 0), (last, last + 9)),
         (load(0, 1, 1, 0), (first - 9, first - 1)),
         (load(0, 1, 1, 3), (first - 9, first - 4)),
@@ -151,6 +157,7 @@ fn access_of_the_pointer_itself() {
     let (first, last) = layout.region();
     let whole = (first, last + 9);
     leaves(layout, load(1, 1, 2, 2), whole, (0, 0xffff));
+    leaves(layout, load_signed(1, 1, 2, 2), whole, ANYTHING);
     leaves(layout, store(1, 1, 2, 2), whole, (first, last - 3));
 }
 

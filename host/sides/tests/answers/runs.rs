@@ -68,10 +68,13 @@ fn endings_change_nothing() {
         // The next index is that of no instruction: nothing is done, not even the store.
         (store(0, 1, 4, 0), 0, BASE, VIOLATED),
         (load(0, 1, 4, 0), 0, BASE, VIOLATED),
+        (load_signed(0, 1, 1, 4095), 0, BASE, VIOLATED),
         (set(3, 9), 0, 0, VIOLATED),
         (branch(0, 0, test::BELOW, 0), 0, 0, VIOLATED),
         // Access and check are judged first.
         (store(0, 1, 4, -1), 0, BASE, TRAPPED),
+        (load_signed(0, 1, 1, 4096), 0, BASE, TRAPPED),
+        (load_signed(0, 1, 2, 4095), 0, BASE, TRAPPED),
         (store(0, 1, 4, 0), 0, 0, VIOLATED),
         (check(0), 1, 0, DENIED),
         (check(0), 0, 0, VIOLATED),

@@ -126,10 +126,10 @@ on-load c =
     let fields = arm .instruction10 .given .0 in
     let small = read .before .before .known-told10 .given .1 .1 .1 .0 .1 in
     let start = arm .before .before .before .before .before in
-    loaded (start .pre) _ _ _ _ _ _ _ _
+    loaded (start .pre) _ _ _ _ _ _ _
     (displaced-by (now (start .args .registers)) (fields .1 .0) _ _ (fields .1 .1 .1 .0) small (read .get11 .ensures)
     (c .before .before .before .displaced2 .ensures))
-    (arm .instruction10 .given .1) _ (c .load .ensures)
+    _ (arm .instruction10 .given .1) _ (c .load .ensures)
 
 on-store : tie.Need-returns-12
 on-store c =
@@ -140,10 +140,10 @@ on-store c =
     let fields = arm .instruction11 .given .0 in
     let small = first .before .before .known-told11 .given .1 .1 .1 .0 .1 in
     let start = arm .before .before .before .before .before in
-    stored (start .pre) _ _ _ _ _ _ _ _
+    stored (start .pre) _ _ _ _ _ _ _
     (displaced-by (now (start .args .registers)) (fields .1 .0) _ _ (fields .1 .1 .1 .0) small (second .get13 .ensures)
     (stored-to .before .before .displaced3 .ensures))
-    (arm .instruction11 .given .1) _ _ (first .get12 .ensures) (stored-to .store .ensures)
+    _ (arm .instruction11 .given .1) _ _ (first .get12 .ensures) (stored-to .store .ensures)
 
 on-jump : tie.Need-returns-13
 on-jump c =

@@ -80,11 +80,12 @@ on-load : tie.Need-returns-11
 unfolding shape afterNext
 on-load c =
     let clear = c .before .before in
-    let arm = clear .before in
+    let read = clear .before in
+    let arm = read .before in
     let given = arm .before .instruction10 .given in
     let small = arm .known-told10 .given .1 .1 .1 .0 .1 in
     rw
-    (given .1, c .put10 .ensures, c .before .load-range .ensures, clear .rule-n .ensures, bits-read-back _ small)
+    (given .1, c .put10 .ensures, c .before .load-range .ensures, clear .rule-n .ensures, read .width-read .ensures, bits-read-back _ small)
 
 on-store : tie.Need-returns-12
 unfolding shape afterNext
@@ -113,7 +114,7 @@ after-next-spec =
     (λ c. c .match .keys8) (λ c κs. tt) (λ c κs. tt) (λ c κs. tt)
     (λ c. c .match .keys9) (λ c κs. tt) (λ c κs. tt) (λ c κs. tt)
     (λ c. c .match .keys10) (λ c κs. tt) (λ c κs. tt) (λ c κs. tt)
-    (λ c. c .match .keys11) (λ c κs. tt) (λ c κs. tt) (λ c κs. tt)
+    (λ c. c .match .keys11) (λ c κs. tt) (λ c κs. tt) (λ c κs. tt) (λ c κs. tt)
     (λ c. c .match .keys12) (λ c κs. tt)
     (λ c. c .match .keys13)
     (λ c. c .match .keys14) (λ c κs. tt)

@@ -2,7 +2,7 @@
 -- Assumes nothing.
 use mathlib.Core.Path.{refl}
 use Rattle.model.specs.declared.Instruction.the-variants.{Set, Copy, Add, Addi, Sub, Andi, Guard, Shr, Sar, Load, Store, Branch, Check}
-use Rattle.model.specs.File.{hasNothing, hasImm, widthOf, testOf, rows, decode}
+use Rattle.model.specs.File.{hasNothing, hasImm, widthOf, loadWidthOf, testOf, rows, decode}
 use Rattle.model.specs.Words.{signed}
 use Rattle.words.proofs.Signed.{kept-signed}
 use Rattle.reader.proofs.Assembling.{row-is, a-imm-row, a-row, a-b-row, amount-row, looked-up-row, last-row}
@@ -31,11 +31,11 @@ assemble-spec =
     (λ c.
     let x = c .before .before .before .args in
     rw (c .before .before .match .keys11, kept-signed _ _ (c .before .before .before .fits .imm .fits) (c .to-signed2 .ensures))
-    (λ i. looked-up-row (x .first) (x .second) (x .w) (x .imm) (λ r s v. Load r s v (signed (x .imm))) (widthOf (x .w)) (c .before .width-of .ensures)))
+    (λ i. looked-up-row (x .first) (x .second) (x .w) (x .imm) (λ r s v. Load r s v (signed (x .imm))) (loadWidthOf (x .w)) (c .before .load-width-of .ensures)))
     (λ c.
     let x = c .before .before .before .args in
     rw (c .before .before .match .keys12, kept-signed _ _ (c .before .before .before .fits .imm .fits) (c .to-signed3 .ensures))
-    (λ i. looked-up-row (x .first) (x .second) (x .w) (x .imm) (λ r s v. Store r s v (signed (x .imm))) (widthOf (x .w)) (c .before .width-of2 .ensures)))
+    (λ i. looked-up-row (x .first) (x .second) (x .w) (x .imm) (λ r s v. Store r s v (signed (x .imm))) (widthOf (x .w)) (c .before .width-of .ensures)))
     (λ c. let x = c .before .args in rw (c .match .keys13) (λ i. row-is (hasImm (x .first) (x .second) (x .w)) (λ good. refl)))
     (λ c.
     let x = c .before .before .args in

@@ -59,27 +59,31 @@ on-load : tie.Need-returns-11
 unfolding decode rows
 on-load c =
     let width = c .before .before in
-    let entry = width .before .before .before in
+    let listed = width .before .before in
+    let entry = listed .before .before in
     rw (
       c .when11 .ensures,
-      width .before .has-a-b-width-imm .ensures,
+      width .before .has-a-b-listed-imm .ensures,
+      listed .is-load-width .ensures,
       kept-signed _ _ (entry .fits .imm .fits) (c .before .to-signed2 .ensures),
-      width .before .before .match .keys11,
+      listed .before .match .keys11,
     )
-    (looked-up (hasABWImm (entry .args .a) (entry .args .b)) (λ v. Load (entry .args .a) (entry .args .b) v (signed (entry .args .imm))) _ (width .width-of .ensures))
+    (looked-up (hasABWImm (entry .args .a) (entry .args .b)) (λ v. Load (entry .args .a) (entry .args .b) v (signed (entry .args .imm))) _ (width .load-width-of .ensures))
 
 on-store : tie.Need-returns-12
 unfolding decode rows
 on-store c =
     let width = c .before .before in
-    let entry = width .before .before .before in
+    let listed = width .before .before in
+    let entry = listed .before .before in
     rw (
       c .when12 .ensures,
-      width .before .has-a-b-width-imm2 .ensures,
+      width .before .has-a-b-listed-imm2 .ensures,
+      listed .is-width .ensures,
       kept-signed _ _ (entry .fits .imm .fits) (c .before .to-signed3 .ensures),
-      width .before .before .match .keys12,
+      listed .before .match .keys12,
     )
-    (looked-up (hasABWImm (entry .args .a) (entry .args .b)) (λ v. Store (entry .args .a) (entry .args .b) v (signed (entry .args .imm))) _ (width .width-of2 .ensures))
+    (looked-up (hasABWImm (entry .args .a) (entry .args .b)) (λ v. Store (entry .args .a) (entry .args .b) v (signed (entry .args .imm))) _ (width .width-of .ensures))
 
 on-jump : tie.Need-returns-13
 unfolding decode rows
@@ -89,8 +93,9 @@ on-branch : tie.Need-returns-14
 unfolding decode rows
 on-branch c =
     let test = c .before in
-    let entry = test .before .before .before in
-    rw (c .when14 .ensures, test .before .has-a-b-test-imm .ensures, test .before .before .match .keys14)
+    let listed = test .before .before in
+    let entry = listed .before .before in
+    rw (c .when14 .ensures, test .before .has-a-b-listed-imm3 .ensures, listed .is-test .ensures, listed .before .match .keys14)
     (looked-up (hasABWImm (entry .args .a) (entry .args .b)) (λ t. Branch (entry .args .a) (entry .args .b) t (entry .args .imm)) _ (test .test-of .ensures))
 
 on-check : tie.Need-returns-15
@@ -113,7 +118,7 @@ decode-spec =
     (λ c κs. tt) (λ c κs. tt) (λ c κs. tt) (λ c κs. tt) (λ c κs. tt) (λ c κs. tt) (λ c κs. tt) (λ c κs. tt)
     (λ c κs. tt) (λ c κs. tt) (λ c κs. tt) (λ c κs. tt) (λ c κs. tt) (λ c κs. tt) (λ c κs. tt) (λ c κs. tt)
     (λ c κs. tt) (λ c κs. tt) (λ c κs. tt) (λ c κs. tt) (λ c κs. tt) (λ c κs. tt) (λ c κs. tt) (λ c κs. tt)
-    (λ c κs. tt) (λ c κs. tt) (λ c κs. tt) (λ c κs. tt) (λ c κs. tt) (λ c κs. tt)
+    (λ c κs. tt) (λ c κs. tt) (λ c κs. tt) (λ c κs. tt) (λ c κs. tt) (λ c κs. tt) (λ c κs. tt) (λ c κs. tt) (λ c κs. tt)
     on-halt
     on-set
     on-copy

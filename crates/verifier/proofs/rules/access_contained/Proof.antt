@@ -10,10 +10,11 @@ use Rattle.verifier.proofs.rules.access_contained.Tie as tie
 on-load : tie.Need-returns
 unfolding shape
 on-load c p i is-l is-x is-k =
-    let known = c .before .before in
+    let read = c .before in
+    let known = read .before .before in
     access-tested p i is-l is-x is-k _ _ _ (known .known-told .given .1 .1 .1 .0 .1)
     (ap (λ (y : Instruction). traits (shape y) .access) (known .before .instruction .given .1))
-    _ (c .before .range-of .ensures) (c .is-contained .ensures)
+    _ (read .before .range-of .ensures) (rw (read .width-read .ensures) at (c .is-contained .ensures))
 
 on-store : tie.Need-returns-2
 unfolding shape
@@ -30,6 +31,6 @@ pub access-contained-spec : {M : Type 1} → statement M
 access-contained-spec =
     tie.close
     (tie.spec
-    (λ c. c .match .keys1) (λ c κs. tt) (λ c κs. c .before .before .before .before .pre)
+    (λ c. c .match .keys1) (λ c κs. tt) (λ c κs. tt) (λ c κs. c .before .before .before .before .before .pre)
     (λ c. c .match .keys2) (λ c κs. tt) (λ c κs. c .before .before .before .before .pre)
     on-load on-store on-others)

@@ -1,8 +1,9 @@
 //! The code and its claims. Rules 8 to 13.
 
-use super::{any_instruction, aside, Break};
-use crate::assembler::{add, branch, check, copy, jump, jumpr, load, store};
-use crate::encode::{op, Instruction, Module, Target, ANYTHING};
+use super::{any_instruction, aside, index_with, one_with, Break};
+use crate::assembler::{add, branch, check, copy, jump, jumpr};
+use crate::encode::{op, Module, Target, ANYTHING, SIGN};
+use crate::generate::access::{any_bytes, load_or_store};
 use crate::random::Random;
 
 pub const ALL: &[Break] = &[
@@ -14,6 +15,7 @@ pub const ALL: &[Break] = &[
     access_aside,
     access_aside,
     wider_access,
+    sign_turned,
     constant_aside,
     narrower_claim,
     narrower_claim,
@@ -27,24 +29,6 @@ pub const ALL: &[Break] = &[
     neighbours_swapped,
     kind_turned,
 ];
-
-/// An index whose instruction has one of the opcodes, if there is one.
-fn index_with(random: &mut Random, module: &Module, opcodes: &[u8]) -> Option<usize> {
-    let indexes = 0..module.code.len();
-    let found: Vec<usize> = indexes
-        .filter(|&index| opcodes.contains(&module.code[index].op))
-        .collect();
-    (!found.is_empty()).then(|| random.pick(&found))
-}
-
-fn one_with<'a>(
-    random: &mut Random,
-    module: &'a mut Module,
-    opcodes: &[u8],
-) -> Option<&'a mut Instruction> {
-    let index = index_with(random, module, opcodes)?;
-    Some(&mut module.code[index])
-}
 
 /// A jump or branch to the index beside, past the last, or to one that has the right low bits only.
 fn jump_aside(random: &mut Random, module: &mut Module) {
@@ -110,11 +94,20 @@ fn access_aside(random: &mut Random, module: &mut Module) {
 
 fn wider_access(random: &mut Random, module: &mut Module) {
     if let Some(access) = one_with(random, module, &[op::LOAD, op::STORE]) {
-        access.w = if access.w == 4 {
-            1
-        } else {
-            access.w.wrapping_mul(2)
+        // From 130 on to 4, since four bytes have no sign to carry up.
+        access.w = match access.w {
+            1 => 2,
+            129 => 130,
+            2 | 130 => 4,
+            _ => 1,
         };
+    }
+}
+
+/// A load carries the sign up where it did not, or the other way round; one of four bytes becomes a bad one.
+fn sign_turned(random: &mut Random, module: &mut Module) {
+    if let Some(load) = one_with(random, module, &[op::LOAD]) {
+        load.w ^= SIGN;
     }
 }
 
@@ -181,7 +174,7 @@ fn no_target_here(random: &mut Random, module: &mut Module) {
 
 fn last_falls_off(random: &mut Random, module: &mut Module) {
     let (a, b) = (random.register(), random.register());
-    let width = random.pick(&[1, 2, 4]);
+    let bytes = any_bytes(random);
     let imm = random.within(-4..=4) as i32;
     // A target, whose claim may be broken too, or perhaps none.
     let target = module.targets[random.below(module.targets.len())].index;
@@ -191,8 +184,7 @@ fn last_falls_off(random: &mut Random, module: &mut Module) {
         1 => copy(a, b),
         2 => check(a),
         3 => branch(a, b, random.below(3) as u8, index.into()),
-        4 => load(a, b, width, imm),
-        _ => store(a, b, width, imm),
+        _ => load_or_store(random, a, b, bytes, imm),
     };
     if let Some(place) = module.code.last_mut() {
         *place = last;

@@ -1,11 +1,11 @@
 //! The file's form: layout, instructions and targets by themselves. Rules 5 to 7.
 
-use super::{any_instruction, aside, Break};
-use crate::encode::{Module, Target, DIRECT};
+use super::{any_instruction, aside, one_with, Break};
+use crate::encode::{op, Module, Target, DIRECT};
 use crate::random::Random;
 
 pub const LAYOUT: &[Break] = &[size, base, guard_size];
-pub const INSTRUCTION: &[Break] = &[opcode, operand, unused_byte];
+pub const INSTRUCTION: &[Break] = &[opcode, operand, unused_byte, width, width];
 pub const TARGET: &[Break] = &[
     index,
     kind,
@@ -74,6 +74,24 @@ fn operand(random: &mut Random, module: &mut Module) {
         0 => instruction.a = byte,
         1 => instruction.b = byte,
         _ => instruction.w = byte,
+    }
+}
+
+/// The widths of a signed load, at an instruction that has none, or one beside them at a load.
+fn width(random: &mut Random, module: &mut Module) {
+    let (opcodes, widths): (&[u8], &[u8]) = match random.below(8) {
+        0..=2 => (&[op::LOAD], &[128, 131, 132]),
+        3 | 4 => (&[op::STORE], &[129, 130]),
+        5 => (&[op::BRANCH], &[129, 130]),
+        6 => (&[op::SHR, op::SAR], &[129, 130]),
+        _ => (
+            &[op::SET, op::COPY, op::GUARD, op::JUMP, op::CHECK],
+            &[129, 130],
+        ),
+    };
+    let w = random.pick(widths);
+    if let Some(instruction) = one_with(random, module, opcodes) {
+        instruction.w = w;
     }
 }
 

@@ -32,3 +32,21 @@ fn any_instruction<'a>(random: &mut Random, module: &'a mut Module) -> &'a mut I
     let at = random.below(module.code.len());
     &mut module.code[at]
 }
+
+/// An index whose instruction has one of the opcodes, if there is one.
+fn index_with(random: &mut Random, module: &Module, opcodes: &[u8]) -> Option<usize> {
+    let indexes = 0..module.code.len();
+    let found: Vec<usize> = indexes
+        .filter(|&index| opcodes.contains(&module.code[index].op))
+        .collect();
+    (!found.is_empty()).then(|| random.pick(&found))
+}
+
+fn one_with<'a>(
+    random: &mut Random,
+    module: &'a mut Module,
+    opcodes: &[u8],
+) -> Option<&'a mut Instruction> {
+    let index = index_with(random, module, opcodes)?;
+    Some(&mut module.code[index])
+}

@@ -3,6 +3,7 @@
 use super::draw::Access;
 use crate::assembler::*;
 use crate::encode::{Instruction, Layout, Module, ANYTHING};
+use crate::generate::access::any_load;
 use crate::generate::body::arithmetic;
 use crate::random::Random;
 use crate::ranges::{after, after_branch, displacements, Ranges, RuleN};
@@ -59,17 +60,25 @@ impl Draft {
     /// are not written.
     pub fn access(&mut self, random: &mut Random, access: Access, spared: &[u8]) -> Option<()> {
         self.idle(random, spared);
-        let Access { b, width, imm } = access;
-        for ranges in [&self.now, &self.earlier] {
-            let (lowest, highest) = displacements(self.layout, ranges[usize::from(b)], width)?;
-            (lowest..=highest).contains(&imm).then_some(())?;
-        }
-        self.put(if random.chance(50) {
-            store(random.register(), b, width, imm)
+        self.allows(access).then_some(())?;
+        let Access { b, bytes, imm } = access;
+        let made = if random.chance(50) {
+            store(random.register(), b, bytes, imm)
         } else {
-            load(register_but(random, spared), b, width, imm)
-        });
+            let a = register_but(random, spared);
+            any_load(random, a, b, bytes, imm)
+        };
+        self.put(made);
         Some(())
+    }
+
+    /// Whether an access keeps rule 10 by both.
+    pub fn allows(&self, access: Access) -> bool {
+        let Access { b, bytes, imm } = access;
+        [&self.now, &self.earlier].into_iter().all(|ranges| {
+            displacements(self.layout, ranges[usize::from(b)], bytes)
+                .is_some_and(|(lowest, highest)| (lowest..=highest).contains(&imm))
+        })
     }
 
     fn idle(&mut self, random: &mut Random, spared: &[u8]) {

@@ -1,29 +1,30 @@
 //! Accesses and their pointers' ranges, near the ends where rule N cuts. What is drawn need not be of use.
 
 use crate::encode::{Layout, Range};
+use crate::generate::access::any_bytes;
 use crate::generate::shape;
 use crate::random::Random;
 use crate::ranges::begins;
 use std::ops::RangeInclusive;
 
-/// A load or store of `width` bytes through register `b`.
+/// A load or store of so many bytes through register `b`.
 #[derive(Clone, Copy)]
 pub struct Access {
     pub b: u8,
-    pub width: u8,
+    pub bytes: u8,
     pub imm: i32,
 }
 
 impl Access {
-    fn new(b: u8, width: u8, imm: i64) -> Option<Access> {
+    fn new(b: u8, bytes: u8, imm: i64) -> Option<Access> {
         let imm = i32::try_from(imm).ok()?;
-        Some(Access { b, width, imm })
+        Some(Access { b, bytes, imm })
     }
 
     /// The pointers with which all its bytes are in the region, also where they are no words.
     pub fn begins(self, layout: Layout) -> (i64, i64) {
         let imm = i64::from(self.imm);
-        let (lowest, highest) = begins(layout, self.width);
+        let (lowest, highest) = begins(layout, self.bytes);
         (lowest - imm, highest - imm)
     }
 
@@ -43,10 +44,6 @@ pub fn layout(random: &mut Random) -> Layout {
             return layout;
         }
     }
-}
-
-fn width(random: &mut Random) -> u8 {
-    random.pick(&[1, 2, 4])
 }
 
 /// A number from the range, if it has any.
@@ -71,9 +68,9 @@ pub fn near(random: &mut Random, numbers: &[i64]) -> Option<Range> {
 
 /// An access at any displacement, also one that takes the ends of its cut past the words, and a pointer for it.
 pub fn displaced(random: &mut Random, layout: Layout) -> Option<(Access, Range)> {
-    let width = width(random);
+    let bytes = any_bytes(random);
     let around = i64::from(layout.size + layout.guard);
-    let (lowest, highest) = begins(layout, width);
+    let (lowest, highest) = begins(layout, bytes);
     let end = random.pick(&[lowest, highest]);
     let imm = match random.below(5) {
         0 => 0,
@@ -81,7 +78,7 @@ pub fn displaced(random: &mut Random, layout: Layout) -> Option<(Access, Range)>
         2 => random.within(-around..=around),
         _ => end - i64::from(random.word()),
     };
-    let access = Access::new(random.register(), width, imm)?;
+    let access = Access::new(random.register(), bytes, imm)?;
     let (kept, reach) = (access.begins(layout), access.reach(layout));
     let inside = random.within(reach.0..=reach.1);
     let pointer = near(random, &[kept.0, kept.1, reach.0, reach.1, inside])?;
@@ -95,7 +92,7 @@ pub fn looping(random: &mut Random, layout: Layout) -> Option<(Vec<Access>, i32,
     let mut accesses = Vec::new();
     for _ in 0..1 + random.below(3) {
         let imm = random.within(-farthest..=farthest);
-        accesses.push(Access::new(b, width(random), imm)?);
+        accesses.push(Access::new(b, any_bytes(random), imm)?);
     }
     let kept = accesses.iter().map(|access| access.begins(layout));
     let highest = kept.clone().map(|(_, highest)| highest).min()?;
@@ -126,18 +123,18 @@ pub fn beyond_the_region(random: &mut Random, layout: Layout) -> Option<([Access
     let b = random.register();
     let (first, last) = (i64::from(layout.first()), i64::from(layout.last()));
     let guard = i64::from(layout.guard);
-    let direct = Access::new(b, width(random), 0)?;
-    let width = width(random);
+    let direct = Access::new(b, any_bytes(random), 0)?;
+    let bytes = any_bytes(random);
     let reach = direct.reach(layout);
     if random.chance(50) {
         let kept = any(random, direct.begins(layout).1 + 1..=reach.1)?;
-        let displaced = Access::new(b, width, first - kept)?;
+        let displaced = Access::new(b, bytes, first - kept)?;
         let lowest = any(random, first.max(kept - guard)..=last.min(kept - 1))?;
         let highest = any(random, kept.max(last + 1)..=reach.1)?;
         Some(([displaced, direct], words(lowest, highest)?))
     } else {
         let kept = any(random, reach.0..=first - 1)?;
-        let displaced = Access::new(b, width, begins(layout, width).1 - kept)?;
+        let displaced = Access::new(b, bytes, begins(layout, bytes).1 - kept)?;
         let lowest = any(random, reach.0..=kept)?;
         let highest = any(random, first..=kept + guard)?;
         Some(([displaced, direct], words(lowest, highest)?))

@@ -3,6 +3,7 @@
 use super::draft::Draft;
 use crate::assembler::*;
 use crate::encode::{test, Instruction, Module, Range, ANYTHING};
+use crate::generate::access::{any_bytes, load_or_store};
 use crate::random::Random;
 use crate::ranges::{covers, displacements, Ranges};
 
@@ -34,16 +35,17 @@ fn wild_access(
     breaks: &Ranges,
 ) -> Option<Module> {
     let register = sticking_out(random, keeps, breaks)?;
-    let width = random.pick(&[1, 2, 4]);
-    let (lowest, highest) = displacements(draft.layout, keeps[register], width)?;
-    let wild = match displacements(draft.layout, breaks[register], width) {
+    let bytes = any_bytes(random);
+    let (lowest, highest) = displacements(draft.layout, keeps[register], bytes)?;
+    let wild = match displacements(draft.layout, breaks[register], bytes) {
         None => lowest..=highest,
         Some((narrow, _)) if lowest < narrow => lowest..=highest.min(narrow - 1),
         Some((_, narrow)) if narrow < highest => lowest.max(narrow + 1)..=highest,
         Some(_) => return None,
     };
     let imm = random.within((*wild.start()).into()..=(*wild.end()).into()) as i32;
-    let made = random.pick(&[load, store])(random.register(), register as u8, width, imm);
+    let a = random.register();
+    let made = load_or_store(random, a, register as u8, bytes, imm);
     draft.code.put(&[made, halt()]);
     Some(draft.code.finish())
 }

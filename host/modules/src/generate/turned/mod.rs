@@ -1,14 +1,15 @@
-//! Modules whose verdict document 02's ticket 1 turns: what follows an access keeps the rules by one rule N and breaks
-//! rule 10 or 11 by the other. Each is drawn until it is one.
+//! Modules whose verdict document 02 turns: what follows an access keeps the rules by one rule N and breaks rule 10 or
+//! 11 by the other (ticket 1), or keeps them by a load without its sign and breaks them by the one with it (ticket 2).
+//! Each is drawn until it is one.
 
 mod draft;
 mod draw;
 mod end;
 
-use crate::assembler::{addi, branch};
+use crate::assembler::{addi, branch, load, load_signed, shr};
 use crate::encode::{claim, test, Module};
 use crate::random::Random;
-use crate::ranges::{covers, cuts_of_branch};
+use crate::ranges::{after, covers, cuts_of_branch, RuleN};
 use draft::Draft;
 use draw::{beyond_the_region, displaced, last_bytes, looping, near, Access};
 
@@ -35,6 +36,11 @@ pub fn empty_n(random: &mut Random) -> Module {
 /// Refused, since rule N's cut makes one of rule B empty.
 pub fn empty_b(random: &mut Random) -> Module {
     until_found(random, empty_at_a_branch)
+}
+
+/// Refused, since a load carries the sign up and so leaves anything.
+pub fn signed(random: &mut Random) -> Module {
+    until_found(random, sign_carried_up)
 }
 
 fn narrowed_once(random: &mut Random) -> Option<Module> {
@@ -109,6 +115,26 @@ fn empty_at_a_branch(random: &mut Random) -> Option<Module> {
         }
         _ => None,
     }
+}
+
+/// What follows a load of 1 or 2 bytes holds for what they are without a sign.
+fn sign_carried_up(random: &mut Random) -> Option<Module> {
+    let layout = draw::layout(random);
+    let (access, pointer) = displaced(random, layout)?;
+    let mut draft = Draft::begin(random, layout, claim(&[(access.b.into(), pointer)]));
+    (access.bytes < 4 && draft.allows(access)).then_some(())?;
+    let Access { b, bytes, imm } = access;
+    let a = random.register();
+    let mut keeps = after(RuleN::Now, layout, draft.now, load(a, b, bytes, imm));
+    draft.put(load_signed(a, b, bytes, imm));
+    if random.chance(50) {
+        // So that two bytes too are an index into a small region.
+        let made = shr(a, 1 + random.below(15) as u8);
+        keeps = after(RuleN::Now, layout, keeps, made);
+        draft.put(made);
+    }
+    let breaks = draft.now;
+    end::refused_by(random, draft, &keeps, &breaks)
 }
 
 fn refused_now(random: &mut Random, mut draft: Draft, pointer: u8) -> Option<Module> {
