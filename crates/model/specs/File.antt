@@ -132,7 +132,8 @@ isUnused x = eqb x 0
 abbrev pub widthOf : ℕ → Option Width
 widthOf w = getD (none ∷ some One ∷ some Two ∷ none ∷ some Four ∷ []) w none
 
--- document 02, ticket 2: "Load gets two more widths: w 129 and w 130"; "Store stays with 1, 2 and 4."
+-- document 02, ticket 2: "Load gets two more widths: w 129 and w 130"; "Store stays with 1, 2 and 4."; "6 no longer rejects these two
+-- widths on a load."
 abbrev pub loadWidthOf : ℕ → Option LoadWidth
 loadWidthOf w = cond (eqb w 129) (some SignedOne) (cond (eqb w 130) (some SignedTwo) (Option·map Unsigned (widthOf w)))
 

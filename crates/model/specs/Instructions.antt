@@ -66,7 +66,8 @@ pub record Access : Type 0 where
   pub width : Width
   pub displacement : ℤ
 
--- a load's access goes by the bytes it reads
+-- a load's access; document 02, ticket 2: "Access rules, rule N and what the walk says a load reaches for use 1 and 2 as the byte
+-- count."
 abbrev pub loadAccess : ℕ → LoadWidth → ℤ → Access
 loadAccess b v imm = record { pointer = b; width = widthRead v; displacement = imm }
 
