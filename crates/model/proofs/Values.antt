@@ -7,7 +7,6 @@ use mathlib.Core.List.{List}
 use native.Mathlib.Omega.{arith}
 use native.Mathlib.Nat.{le-refl, lt-of-lt-of-le, mod-lt, mod-eq-of-lt, mul-add-mod-self-right}
 use lib.Dec.{leb, ltb}
-use lib.ListN.{getD}
 use lib.IntN.{ℤ, pos, _+ℤ_, subℕ}
 use lib.Pow.{shr-mono, shr-le, pow-pos, pow-mono, le-ones}
 use borrow.Author.Tests.{lt-ltb, le-ltb, ltb-true, leb-true}

@@ -119,7 +119,7 @@ call-is ending count r0 r1 place memory steps = ending ∷ count ∷ r0 ∷ r1 �
 abbrev pub then-halts : ℕ → ℕ → List ℕ → List ℕ
 then-halts r0 r1 memory = step-is [] (0 ∷ []) halted r0 r1 1 memory
 
--- a call of one step that reaches for some bytes and is done, and the halt behind it
+-- a call of one step that is done, whatever it reaches for, and the halt behind it
 abbrev pub done-then-halts : List ℕ → ℕ → ℕ → List ℕ → List ℕ
 done-then-halts reached r0 r1 memory =
     call-is halted 2 r0 r1 1 memory (step-is reached (0 ∷ []) running r0 r1 1 memory ++ then-halts r0 r1 memory)

@@ -130,7 +130,7 @@ const fn forbidden_table() -> [u64; 128] {
             2 | 3 | 5 => A | B,
             7 | 14 | 15 => A,
             8 | 9 => A | SHIFT,
-            // Four bytes have no sign to carry up.
+            // Above four bytes there is nothing to carry a sign into.
             10 if w != 4 => A | B | SIGNED_WIDTH | IMM,
             12 => IMM,
             _ => A | B | WIDTH | IMM,

@@ -1,6 +1,6 @@
 -- `machine::access::carry` meets its contract: by the width that was told. Assumes nothing.
 use native.Mathlib.Omega.{arith}
-use Rattle.model.specs.Instructions.{bytesOf, widthRead, carried}
+use Rattle.model.specs.Instructions.{carried}
 use Rattle.machine.proofs.access.carry.Statement.{statement}
 use Rattle.machine.proofs.access.carry.Tie as tie
 

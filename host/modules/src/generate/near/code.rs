@@ -94,7 +94,7 @@ fn access_aside(random: &mut Random, module: &mut Module) {
 
 fn wider_access(random: &mut Random, module: &mut Module) {
     if let Some(access) = one_with(random, module, &[op::LOAD, op::STORE]) {
-        // From 130 on to 4, since four bytes have no sign to carry up.
+        // From 130 on to 4, since above four bytes there is nothing to carry a sign into.
         access.w = match access.w {
             1 => 2,
             129 => 130,
