@@ -1,5 +1,5 @@
 /*
- * madsjirn: judges and runs modules. The interface of the proved library libmadsjirn.a.
+ * madsjirn: judges and runs modules, and works out their claims. The interface of the proved library libmadsjirn.a.
  *
  * Every function takes anything: any bytes as a file, any machine, memory, offset and budget. There is nothing
  * to test beforehand. The only demands are those of C on pointers:
@@ -13,14 +13,16 @@
  * made at the same time. Each call gets the module's bytes and judges them.
  *
  * The library is built for x86-64 Linux by `rt staticlib madsjirn`, which writes target/staticlib/libmadsjirn.a:
- * compile with -I include and link that file. A call writes less than 900 bytes below its caller's stack pointer
- * (measured, not proved: docs/PERFORMANCE.md), does not recurse, and makes no system call.
+ * compile with -I include and link that file. A call of madsjirn_work_out writes less than 23,000 bytes below its
+ * caller's stack pointer, one of any other function less than 900 (measured, not proved: docs/PERFORMANCE.md). No call
+ * recurses or makes a system call.
  *
  * Answers are numbers: member refusal is 0, or the number of the first rule broken, in document 01's order, and
  * place says where: an offset into the file, or an index, as listed below. Where refusal is 0, place means
  * nothing. No other numbers than those named below occur.
  *
- * "Document 01" is the scope document. Where its word differs from the name here it stands in quotes.
+ * "Document 01" is the scope document, "document 02" the change requests. Where their word differs from the name here
+ * it stands in quotes.
  */
 #ifndef MADSJIRN_H
 #define MADSJIRN_H
@@ -36,7 +38,7 @@ extern "C" {
 enum {
     MADSJIRN_ACCEPTED = 0,         /* no refusal */
 
-    /* The file; judged by every function. */
+    /* The file; judged by every function, by madsjirn_work_out without the claims of direct targets. */
     MADSJIRN_TRUNCATED = 1,        /* "short": the bytes end inside a field; the field's offset */
     MADSJIRN_WRONG_TAG = 2,        /* not the tag that is due; the field's offset */
     MADSJIRN_BAD_LENGTH = 3,       /* a length that is not listed; the field's offset */
@@ -45,11 +47,11 @@ enum {
     MADSJIRN_BAD_INSTRUCTION = 6,  /* opcode, operand or unused byte; the lowest index */
     MADSJIRN_BAD_TARGET = 7,       /* "bad door"; the lowest target's number, counted from 0 */
 
-    /* The code; judged by madsjirn_verify. The place is the instruction's index. */
+    /* The code; judged by madsjirn_verify and madsjirn_work_out. The place is the instruction's index. */
     MADSJIRN_NO_TARGET = 8,        /* "no door": a jump or branch to what is no target */
     MADSJIRN_UNCHECKED_JUMP = 9,   /* jumpr without check of its register just before it, or itself a target */
     MADSJIRN_WILD_ACCESS = 10,     /* an access may reach outside the region and its guard zones */
-    MADSJIRN_BROKEN_CLAIM = 11,    /* the ranges on an edge to a target are not within its claim */
+    MADSJIRN_BROKEN_CLAIM = 11,    /* the ranges on an edge to a target are not within its claim; by verify alone */
     MADSJIRN_UNREACHABLE = 12,     /* "no way in": after halt, jump or jumpr, and no target */
     MADSJIRN_FALLS_OFF = 13,       /* "runs off": the last instruction is no halt, jump or jumpr */
 
@@ -85,9 +87,9 @@ typedef struct {
     uint32_t targets;      /* "doors", 1 to 256 */
 } madsjirn_module;
 
-/* What madsjirn_verify answers. Where refusal is not 0, all members after place are 0. */
+/* What madsjirn_verify and madsjirn_work_out answer. Where refusal is not 0, all members after place are 0. */
 typedef struct {
-    uint32_t refusal;      /* 0: accepted; or 1 to 13 */
+    uint32_t refusal;      /* 0: accepted; or 1 to 13, by madsjirn_work_out never 11 */
     uint32_t place;
     uint32_t instructions; /* 1 to 4,096 */
     uint32_t targets;      /* "doors", 1 to 256 */
@@ -120,6 +122,26 @@ madsjirn_module madsjirn_read(const uint8_t *file, size_t file_length);
  * and between them. Index 0 is an indirect target of every module.
  */
 madsjirn_verdict madsjirn_verify(const uint8_t *file, size_t file_length);
+
+/*
+ * Works out the claims of a module's direct targets ("inner doors"), for builders that have no tool for it, and judges
+ * the module with them: document 02's ticket 3.
+ *
+ * The claims of direct targets in file are ignored, whatever they are, also those whose lowest value exceeds the
+ * highest. They count for nothing in rule 7; all else of it does: indexes, kinds, the zero byte and the claims of
+ * indirect targets.
+ *
+ * Yields refusal 0 with the counts if the module keeps every rule with the claims worked out. These are then written
+ * over those of the direct targets in file, and no other byte changes. madsjirn_verify accepts what is in file then,
+ * with the same counts, and what is said there of runs holds; worked out again it stays as it is.
+ *
+ * Else yields the first rule broken, and the rest 0: 1 to 7 as said, or what madsjirn_verify answers of the module with
+ * the claims worked out. A refused call leaves every byte of file as it was. It does not mean that there are no claims
+ * with which the module is accepted: narrower ones may exist.
+ *
+ * A module can be made so that a call takes seconds (measured: docs/PERFORMANCE.md).
+ */
+madsjirn_verdict madsjirn_work_out(uint8_t *file, size_t file_length);
 
 /*
  * Runs a module on machine, from machine->pc on, for at most budget steps. The region is the module's size

@@ -1,5 +1,5 @@
 /*
- * The members of the library's answers are those that the header names. Makes each of the four calls on modules
+ * The members of the library's answers are those that the header names. Makes each of the five calls on modules
  * whose answers have different numbers in their members, and looks at every member by name: a library whose
  * structs have two members in another order gives wrong ones. Exits with 1 if any is wrong.
  *
@@ -55,7 +55,7 @@ enum {
     TARGETS = 3,
     GOOD_JUMP = 12, /* the opcode of instruction 3 */
     BAD_JUMP = 16,  /* an opcode that there is not */
-    SMALL_GUARD = 6 /* too small for instruction 1 */
+    SMALL_GUARD = 3 /* too small for instruction 1, with any claim that holds */
 };
 
 static uint8_t memory[MEMORY_LENGTH];
@@ -146,8 +146,13 @@ static void look_at_read(void) {
     EXPECT(call, module, targets, 0);
 }
 
-static void look_at_refused_verdict(const char *call, const file_builder *file, uint32_t refusal, uint32_t place) {
-    madsjirn_verdict verdict = madsjirn_verify(file->bytes, file->length);
+static void expect_accepted(const char *call, madsjirn_verdict verdict) {
+    EXPECT(call, verdict, refusal, MADSJIRN_ACCEPTED);
+    EXPECT(call, verdict, instructions, INSTRUCTIONS);
+    EXPECT(call, verdict, targets, TARGETS);
+}
+
+static void expect_verdict(const char *call, madsjirn_verdict verdict, uint32_t refusal, uint32_t place) {
     EXPECT(call, verdict, refusal, refusal);
     EXPECT(call, verdict, place, place);
     EXPECT(call, verdict, instructions, 0);
@@ -155,17 +160,25 @@ static void look_at_refused_verdict(const char *call, const file_builder *file, 
 }
 
 static void look_at_verify(void) {
-    const char *call = "madsjirn_verify, accepted";
     file_builder file = module_with(GUARD, GOOD_JUMP);
-    madsjirn_verdict verdict = madsjirn_verify(file.bytes, file.length);
-    EXPECT(call, verdict, refusal, MADSJIRN_ACCEPTED);
-    EXPECT(call, verdict, instructions, INSTRUCTIONS);
-    EXPECT(call, verdict, targets, TARGETS);
-
+    expect_accepted("madsjirn_verify, accepted", madsjirn_verify(file.bytes, file.length));
     file = module_with(GUARD, BAD_JUMP);
-    look_at_refused_verdict("madsjirn_verify, file refused", &file, MADSJIRN_BAD_INSTRUCTION, 3);
+    expect_verdict("madsjirn_verify, file refused", madsjirn_verify(file.bytes, file.length),
+                   MADSJIRN_BAD_INSTRUCTION, 3);
     file = module_with(SMALL_GUARD, GOOD_JUMP);
-    look_at_refused_verdict("madsjirn_verify, code refused", &file, MADSJIRN_WILD_ACCESS, 1);
+    expect_verdict("madsjirn_verify, code refused", madsjirn_verify(file.bytes, file.length), MADSJIRN_WILD_ACCESS,
+                   1);
+}
+
+static void look_at_work_out(void) {
+    file_builder file = module_with(GUARD, GOOD_JUMP);
+    expect_accepted("madsjirn_work_out, accepted", madsjirn_work_out(file.bytes, file.length));
+    file = module_with(GUARD, BAD_JUMP);
+    expect_verdict("madsjirn_work_out, file refused", madsjirn_work_out(file.bytes, file.length),
+                   MADSJIRN_BAD_INSTRUCTION, 3);
+    file = module_with(SMALL_GUARD, GOOD_JUMP);
+    expect_verdict("madsjirn_work_out, code refused", madsjirn_work_out(file.bytes, file.length),
+                   MADSJIRN_WILD_ACCESS, 1);
 }
 
 static void expect_made(const char *call, madsjirn_answer answer, uint32_t ending, uint32_t steps) {
@@ -241,6 +254,7 @@ static void look_at_refused_runs(void) {
 int main(void) {
     look_at_read();
     look_at_verify();
+    look_at_work_out();
     look_at_loop();
     look_at_sums();
     look_at_steps();

@@ -1,6 +1,6 @@
 /*
- * Document 01's loop, from C: verifies it, runs it, steps it, and shows two refusals. Prints what it found and
- * exits with 1 if anything differs from what document 01 says.
+ * Document 01's loop, from C: verifies it, runs it, steps it, shows two refusals, and has its claims worked out. Prints
+ * what it found and exits with 1 if anything differs from what the documents say.
  */
 #include "madsjirn.h"
 
@@ -14,6 +14,7 @@ enum {
     BASE = 0x20000000,
     SIZE = 4096,
     GUARD = 256,
+    SMALL_GUARD = 4,    /* just enough for the claim that is worked out */
     OFFSET = 1000,      /* where the region begins in the host's memory */
     MEMORY_LENGTH = 10000
 };
@@ -25,20 +26,21 @@ static void expect(bool holds, const char *what) {
     failed = failed || !holds;
 }
 
-static file_builder loop_module(void) {
+/* The loop with guard zones of that many bytes and a claim for r1 at its direct target. */
+static file_builder loop_module(uint32_t guard, uint32_t r1_lowest, uint32_t r1_highest) {
     file_builder file = {{0}, 0};
     put_header(&file, 1, 12);
     put_u32(&file, BASE);
     put_u32(&file, SIZE);
-    put_u32(&file, GUARD);
+    put_u32(&file, guard);
     put_header(&file, 2, 4 * 8);
     put_instruction(&file, 7, 1, 0, 0, 0);  /* 0 guard r1 */
     put_instruction(&file, 10, 0, 1, 4, 0); /* 1 load r0, r1, width 4, imm 0 */
     put_instruction(&file, 4, 1, 0, 0, 4);  /* 2 addi r1, 4 */
     put_instruction(&file, 12, 0, 0, 0, 1); /* 3 jump 1 */
     put_header(&file, 3, 2 * 68);
-    put_target(&file, 0, 1, 0, UINT32_MAX);                  /* indirect */
-    put_target(&file, 1, 0, BASE, (uint32_t)BASE + SIZE + 3); /* direct: DB to DL + 4 */
+    put_target(&file, 0, 1, 0, UINT32_MAX);           /* indirect */
+    put_target(&file, 1, 0, r1_lowest, r1_highest); /* direct */
     return file;
 }
 
@@ -130,14 +132,42 @@ static void show_refused_run(const file_builder *file, size_t offset) {
     expect(same_machine(&machine, &before) && memory_is_as_filled(), "machine and memory unchanged");
 }
 
+static bool same_bytes(const file_builder *one, const file_builder *other) {
+    return one->length == other->length && memcmp(one->bytes, other->bytes, one->length) == 0;
+}
+
+/* A claim that is none, since its lowest value exceeds the highest: whoever built the file has no tool for claims. */
+static void show_claims(void) {
+    file_builder file = loop_module(SMALL_GUARD, UINT32_MAX, 0);
+    expect(madsjirn_verify(file.bytes, file.length).refusal == MADSJIRN_BAD_TARGET, "refused with no claim for r1");
+
+    /* DB to DL + 1: after a load that is not trapped r1 is at most DL - 3. */
+    const file_builder due = loop_module(SMALL_GUARD, BASE, (uint32_t)BASE + SIZE);
+    madsjirn_verdict verdict = madsjirn_work_out(file.bytes, file.length);
+    printf("work out: refusal %u, %u instructions, %u targets\n", (unsigned)verdict.refusal,
+           (unsigned)verdict.instructions, (unsigned)verdict.targets);
+    expect(verdict.refusal == MADSJIRN_ACCEPTED && verdict.instructions == 4 && verdict.targets == 2,
+           "accepted 4 2");
+    expect(same_bytes(&file, &due), "r1 is claimed from 20000000 to 20001000, all other bytes are as they were");
+    expect(madsjirn_verify(file.bytes, file.length).refusal == MADSJIRN_ACCEPTED, "accepted by verify too");
+
+    file = loop_module(SMALL_GUARD - 1, UINT32_MAX, 0);
+    const file_builder before = file;
+    verdict = madsjirn_work_out(file.bytes, file.length);
+    printf("work out with a guard too small: refused %u %u\n", (unsigned)verdict.refusal, (unsigned)verdict.place);
+    expect(verdict.refusal == MADSJIRN_WILD_ACCESS && verdict.place == 1, "wild access at 1");
+    expect(same_bytes(&file, &before), "all bytes are as they were");
+}
+
 int main(void) {
-    const file_builder file = loop_module();
+    const file_builder file = loop_module(GUARD, BASE, (uint32_t)BASE + SIZE + 3); /* DB to DL + 4 */
     show_reading(&file);
     show_run(&file);
     show_step(&file);
     show_refused_file();
     show_refused_run(&file, MEMORY_LENGTH - SIZE + 1);
     show_refused_run(&file, SIZE_MAX);
-    puts(failed ? "something differs" : "all as document 01 says");
+    show_claims();
+    puts(failed ? "something differs" : "all as the documents say");
     return failed ? 1 : 0;
 }

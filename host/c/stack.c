@@ -22,15 +22,16 @@ enum {
     BUDGET = 10000
 };
 
-typedef enum { EMPTY, READ, VERIFY, RUN, STEP, FUNCTIONS } function;
+/* The last may change the file. */
+typedef enum { EMPTY, READ, VERIFY, RUN, STEP, WORK_OUT, FUNCTIONS } function;
 
-static const char *const names[FUNCTIONS] = {"an empty function", "madsjirn_read", "madsjirn_verify", "madsjirn_run",
-                                             "madsjirn_step"};
+static const char *const names[FUNCTIONS] = {"an empty function", "madsjirn_read", "madsjirn_verify",
+                                             "madsjirn_run",      "madsjirn_step", "madsjirn_work_out"};
 
 /* The call to make; contexts take no pointers as arguments. */
 static struct {
     function function;
-    const uint8_t *file;
+    uint8_t *file;
     size_t length;
     madsjirn_machine machine;
     uint8_t *stack_pointer; /* just before the call */
@@ -64,8 +65,11 @@ static void make_call(void) {
     case RUN:
         sink = madsjirn_run(job.file, job.length, &job.machine, memory, sizeof memory, OFFSET, BUDGET).refusal;
         break;
-    default:
+    case STEP:
         sink = madsjirn_step(job.file, job.length, &job.machine, memory, sizeof memory, OFFSET).refusal;
+        break;
+    default:
+        sink = madsjirn_work_out(job.file, job.length).refusal;
         break;
     }
 }
@@ -99,7 +103,7 @@ static size_t used_over(uint8_t fill) {
 }
 
 /* A written byte may happen to be the fill; so two fills. */
-static size_t used(function function, const uint8_t *file, size_t length) {
+static size_t used(function function, uint8_t *file, size_t length) {
     job.function = function;
     job.file = file;
     job.length = length;

@@ -1,6 +1,7 @@
 -- A call: what is judged before its steps, and what the host sees of it. Assumes nothing.
 use Prim.Native.Nat.{ℕ, _+_, _-_, _≤_, _<_}
 use mathlib.Core.Path.{_≡_, sym, ap, _∙_}
+use mathlib.Core.Bool.{true}
 use mathlib.Core.List.{List, _++_}
 use mathlib.Core.Option.{some}
 use native.Mathlib.Nat.{add-sub-cancel-left}
@@ -53,7 +54,7 @@ module _ (file : List ℕ) (m : Machine) (memory : List ℕ) (offset : ℕ) wher
   unfolding runnable
   unreadable r named = append-faulty (readable file) _ (faultOf r) named
 
-  module _ {l : Layout} {n k : ℕ} (read : ReadFacts file l n k) where
+  module _ {l : Layout} {n k : ℕ} (read : ReadFacts true file l n k) where
     -- 14
     pub bad-pc : n ≤ m .pc → firstFault (runnable file m memory offset) ≡ some (fault 14 0)
     unfolding runnable

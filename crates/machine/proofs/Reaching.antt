@@ -1,20 +1,20 @@
 -- Where the bytes of an access lie, and moving them: each way through the code is the definition's, by its tests, and what lies
 -- inside the region fits there. Assumes nothing.
-use Prim.Native.Nat.{ℕ, zero, suc, _+_, _-_, _/_, _%_, _^_, _≤_, _<_}
+use Prim.Native.Nat.{ℕ, _+_, _-_, _%_, _≤_, _<_}
 use mathlib.Core.Path.{_≡_, refl, sym, ap, _∙_}
 use mathlib.Core.Logic.{_⊎_, inl, inr}
 use mathlib.Core.Bool.{Bool, true, false, cond, _&&_, false≢true}
 use mathlib.Core.List.{List}
-use native.Mathlib.Nat.{mod-lt, add-zero, div-one, div-div-eq-div-mul, pow-succ'}
+use native.Mathlib.Nat.{mod-lt}
 use native.Mathlib.Omega.{arith}
 use borrow.Author.Tests.{leb-true, le-leb, lt-leb}
 use lib.Bits.{bitAnd, and-mask}
 use lib.Dec.{leb}
-use lib.ListN.{length, getD, set}
+use lib.ListN.{length, getD}
 use Rattle.model.specs.declared.Layout.{Layout}
 use Rattle.model.specs.declared.Width.{Width}
 use Rattle.model.specs.declared.Ending.the-variants.{Trapped, Violated}
-use Rattle.model.specs.Words.{modulus, readBytes, writeBytes}
+use Rattle.model.specs.Words.{modulus, readBytes}
 use Rattle.model.specs.Instructions.{bytesOf}
 use Rattle.model.specs.Step.{inRegion, inZones, Effect, ends, accessing}
 use Rattle.model.specs.Rules.{LayoutKept}
@@ -126,27 +126,6 @@ module _ (l : Layout) (at : ℕ) (w : Width) where
 pub one-byte : (bytes : List ℕ) (at r : ℕ) → r ≡ getD bytes at 0 → r ≡ readBytes 1 bytes at
 unfolding readBytes
 one-byte bytes at r read = omega arith
-
--- a write that goes on by one byte
-writes-next : (n x : ℕ) (bytes : List ℕ) (at : ℕ)
-    → set (writeBytes n x bytes at) (at + n) (x / 256 ^ n % 256) ≡ writeBytes (suc n) x bytes at
-unfolding writeBytes
-writes-next zero x bytes at = rw (add-zero, div-one)
-writes-next (suc n) x bytes at =
-    let shifted : x / 256 ^ suc n ≡ x / 256 / 256 ^ n = rw pow-succ' (sym (div-div-eq-div-mul x 256 (256 ^ n))) in
-    let place : at + suc n ≡ suc at + n = omega arith in
-    rw (shifted, place) (writes-next n (x / 256) (set bytes at (x % 256)) (suc at))
-
--- n + 1 bytes, each set by itself
-abbrev pub setBytes : ℕ → ℕ → List ℕ → ℕ → List ℕ
-setBytes zero x bytes at = set bytes at (x % 256)
-setBytes (suc n) x bytes at = set (setBytes n x bytes at) (at + suc n) (x / 256 ^ suc n % 256)
-
-pub writes : (n x : ℕ) (bytes : List ℕ) (at : ℕ) → setBytes n x bytes at ≡ writeBytes (suc n) x bytes at
-unfolding writeBytes
-writes zero x bytes at = refl
-writes (suc n) x bytes at =
-    ap (λ (bs : List ℕ). set bs (at + suc n) (x / 256 ^ suc n % 256)) (writes n x bytes at) ∙ writes-next (suc n) x bytes at
 
 -- ---- the guard
 

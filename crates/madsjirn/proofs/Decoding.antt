@@ -12,31 +12,50 @@ use Rattle.model.specs.declared.Ending.{Ending}
 use Rattle.model.specs.declared.Ending.the-variants.{Halted, Trapped, Denied, Violated, OutOfBudget}
 use Rattle.model.specs.declared.Machine.{Machine}
 use Rattle.model.specs.Obligations.{Fault, firstFault}
-use Rattle.model.specs.Answers.{endingNumber}
+use Rattle.model.specs.Answers.{endingNumber, Judgement, accepted, refused}
 use Rattle.model.specs.File.{layoutIn, readable, programIn}
-use Rattle.model.specs.Judgement.{firstBroken, concluded, judgement}
+use Rattle.model.specs.Judgement.{judgement}
+use Rattle.model.specs.Claims.{workOut}
 use Rattle.model.specs.Run.{Run, run, stretch, finished, runnable, unlessRefused, runOn}
-use Rattle.model.proofs.Numbers.{readable-listed, judged-listed, runnable-listed}
-use Rattle.reader.specs.Readings.{readReport, reading}
+use Rattle.model.proofs.Numbers.{readable-listed, judged-listed, refused-judged, runnable-listed}
+use Rattle.model.proofs.Claims.Answering.{worked-out-judged}
+use Rattle.reader.specs.Readings.{readReport, readingBy, reading}
 use Rattle.madsjirn.specs.Entries.{NumbersCarried}
 use Rattle.madsjirn.specs.Numbers.{moduleNumbers, verdictNumbers, runNumbers, readingIn, judgementIn, endingIn, reportIn}
 
 -- a number above 0 is a refusal
-is-refusal : {A : Type 0} (n : ℕ) (otherwise refused : A) → 1 ≤ n → cond (eqb n 0) otherwise refused ≡ refused
-is-refusal zero otherwise refused h = absurd (omega arith)
-is-refusal (suc n) otherwise refused h = rw (eqb·suc-zero n)
+is-refusal : {A : Type 0} (n : ℕ) (otherwise refusal : A) → 1 ≤ n → cond (eqb n 0) otherwise refusal ≡ refusal
+is-refusal zero otherwise refusal h = absurd (omega arith)
+is-refusal (suc n) otherwise refusal h = rw (eqb·suc-zero n)
 
-judgement-carried : (file : List ℕ) → judgementIn (verdictNumbers (judgement file)) ≡ judgement file
-unfolding judgement judgementIn verdictNumbers
-judgement-carried file = by-fault (firstBroken file) (λ f e. judged-listed file f e .0)
-  where
-    by-fault : (o : Option Fault) → ((f : Fault) → o ≡ some f → 1 ≤ f .number)
-        → judgementIn (verdictNumbers (concluded file o)) ≡ concluded file o
-    by-fault none above = refl
-    by-fault (some f) above = is-refusal (f .number) _ _ (above f refl)
+-- a judgement whose refusals have such numbers
+abbrev Numbered : Judgement → Type 0
+Numbered j = (f : Fault) → j ≡ refused f → 1 ≤ f .number
+
+carried : (j : Judgement) → Numbered j → judgementIn (verdictNumbers j) ≡ j
+unfolding judgementIn verdictNumbers
+carried (accepted n k) above = refl
+carried (refused f) above = is-refusal (f .number) _ _ (above f refl)
+
+-- is accepted if the number is 0
+pub record IsAccepted (j : Judgement) : Type 0 where
+  pub instructions : ℕ
+  pub targets : ℕ
+  pub is : j ≡ accepted instructions targets
+
+zero-accepts : (j : Judgement) → Numbered j → verdictNumbers j .refusal ≡ 0 → IsAccepted j
+unfolding verdictNumbers
+zero-accepts (accepted n k) above same = record { instructions = n; targets = k; is = refl }
+zero-accepts (refused f) above same = absurd (omega (arith, above f refl))
+
+verdict-numbered : (file : List ℕ) → Numbered (judgement file)
+verdict-numbered file f is = judged-listed file f (refused-judged file f is) .0
+
+worked-numbered : (file : List ℕ) → Numbered (workOut file .judgement)
+worked-numbered file f is = worked-out-judged .numbered file f is .0
 
 reading-carried : (file : List ℕ) → readingIn (moduleNumbers (reading file)) ≡ reading file
-unfolding reading readingIn moduleNumbers
+unfolding readingBy readingIn moduleNumbers
 reading-carried file = by-fault (firstFault (readable file)) (readable-listed file)
   where
     by-fault : (o : Option Fault) → ((f : Fault) → o ≡ some f → 1 ≤ f .number)
@@ -68,14 +87,17 @@ report-carried file m memory offset budget =
     by-fault r none above = rw (ending-carried (r .ending))
     by-fault r (some f) above = is-refusal (f .number) _ _ (above f refl)
 
--- no refusal's number in the verdict means that no rule is broken
-pub passed-none : (file : List ℕ) → verdictNumbers (judgement file) .refusal ≡ 0 → firstBroken file ≡ none
-unfolding judgement verdictNumbers
-passed-none file zero-number = by-fault (firstBroken file) (λ f e. judged-listed file f e .0) zero-number
-  where
-    by-fault : (o : Option Fault) → ((f : Fault) → o ≡ some f → 1 ≤ f .number) → verdictNumbers (concluded file o) .refusal ≡ 0 → o ≡ none
-    by-fault none above same = refl
-    by-fault (some f) above same = absurd (omega (arith, above f refl))
+-- no refusal's number in an answer means that the module is accepted
+pub verdict-passed : (file : List ℕ) → verdictNumbers (judgement file) .refusal ≡ 0 → IsAccepted (judgement file)
+verdict-passed file = zero-accepts (judgement file) (verdict-numbered file)
+
+pub worked-passed : (file : List ℕ) → verdictNumbers (workOut file .judgement) .refusal ≡ 0 → IsAccepted (workOut file .judgement)
+worked-passed file = zero-accepts (workOut file .judgement) (worked-numbered file)
 
 pub numbers-carried : NumbersCarried
-numbers-carried = record { verdict = judgement-carried; layout = reading-carried; call = report-carried }
+numbers-carried = record {
+  verdict = λ file. carried (judgement file) (verdict-numbered file);
+  worked-out = λ file. carried (workOut file .judgement) (worked-numbered file);
+  layout = reading-carried;
+  call = report-carried;
+}

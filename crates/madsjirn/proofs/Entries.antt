@@ -5,18 +5,22 @@ use mathlib.Core.Path.{_≡_, refl, sym, ap, _∙_}
 use mathlib.Core.List.{List, [], _∷_}
 use mathlib.Core.Option.{none}
 use Rattle.model.specs.declared.Machine.{Machine}
+use Rattle.model.specs.declared.Verdict.the-variants.{Accepted}
+use Rattle.model.specs.Answers.{accepted, judgementOf}
 use Rattle.model.specs.File.{programIn}
 use Rattle.model.specs.Judgement.{firstBroken, concluded, judgement}
+use Rattle.model.specs.Claims.{Answered, workOut}
 use Rattle.model.specs.Run.{Seen, RunPost, runOn}
 use Rattle.model.specs.Walk.{Call, hostWrites, Called}
 use Rattle.model.specs.Walk as Walk
+use Rattle.model.proofs.Claims.Answering.{worked-out-judged}
 use Rattle.safety.proofs.Safety.{safety}
 use Rattle.safety.proofs.Entries.{accepted-means}
 use Rattle.madsjirn.specs.declared.answers.RunAnswer.{RunAnswer}
 use Rattle.madsjirn.specs.declared.answers.VerdictAnswer.{VerdictAnswer}
 use Rattle.madsjirn.specs.Numbers.{verdictNumbers, runNumbers, reportIn, Leaves}
-use Rattle.madsjirn.specs.Entries.{LetIn, verified, verified-by-number, seenIn, EntryPost, by-value, over-lent, exported, Hosted, done, call, HostedAnswers, HostedSafety}
-use Rattle.madsjirn.proofs.Decoding.{report-carried, passed-none}
+use Rattle.madsjirn.specs.Entries.{LetIn, verified, verified-by-number, worked-out, worked-out-by-number, seenIn, EntryPost, by-value, over-lent, exported, Hosted, done, call, HostedAnswers, HostedSafety}
+use Rattle.madsjirn.proofs.Decoding.{report-carried, verdict-passed, worked-passed}
 
 -- what is read back from the numbers of an exported call is the model's
 numbers-post : {file : List ℕ} {m : Machine} {memory : List ℕ} {offset budget : ℕ} (a : RunAnswer) (m′ : Machine) (after : List ℕ)
@@ -37,9 +41,26 @@ called : {file : List ℕ} {m : Machine} {memory : List ℕ} {calls : List Call}
 called done = Walk.done
 called (call answered rest) = Walk.call (entry-post answered) (called rest)
 
+-- an accepted file breaks no rule, and neither does one that claims were worked out for
+none-broken : (file : List ℕ) (n k : ℕ) → judgement file ≡ accepted n k → firstBroken file ≡ none
+unfolding judgementOf
+none-broken file n k is = accepted-means file (Accepted n k) n k (sym is) refl
+
+left-accepted : (came : List ℕ) (n k : ℕ) {file : List ℕ} → file ≡ workOut came .bytes → workOut came .judgement ≡ accepted n k
+    → firstBroken file ≡ none
+left-accepted came n k is accepts = rw is (none-broken (workOut came .bytes) n k (worked-out-judged .stands came n k accepts))
+
 let-in : {file : List ℕ} → LetIn file → firstBroken file ≡ none
+unfolding judgementOf
 let-in {file} (verified v n k meant answered) = accepted-means file v n k meant answered
-let-in {file} (verified-by-number v numbers zero-number) = passed-none file (sym (ap (λ (w : VerdictAnswer). w .refusal) numbers) ∙ zero-number)
+let-in {file} (verified-by-number v numbers zero-number) =
+    let passed = verdict-passed file (sym (ap (λ (w : VerdictAnswer). w .refusal) numbers) ∙ zero-number) in
+    none-broken file _ _ (passed .is)
+let-in {file} (worked-out came v n k meant answered) =
+    left-accepted came n k (ap (λ (a : Answered). a .bytes) meant) (sym (ap (λ (a : Answered). a .judgement) meant) ∙ ap judgementOf answered)
+let-in {file} (worked-out-by-number came v left zero-number) =
+    let passed = worked-passed came (sym (ap (λ (w : VerdictAnswer). w .refusal) (left .numbers)) ∙ zero-number) in
+    left-accepted came _ _ (left .file-is) (passed .is)
 
 pub hosted-safety : HostedSafety
 hosted-safety = record {

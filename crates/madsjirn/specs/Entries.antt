@@ -1,5 +1,5 @@
 -- Demand 3 for whatever a host calls: runs and steps by value, over a lent machine and exported, in any mixture, each by its own
--- contract, of a module that either verifier accepted. Proved in proofs/Entries. Assumes nothing.
+-- contract, of a module that either verifier accepted, with its own claims or with claims that were worked out. Proved in proofs/Entries. Assumes nothing.
 use Prim.Native.Nat.{ℕ, _<_}
 use mathlib.Core.Path.{_≡_}
 use mathlib.Core.Bool.{true}
@@ -14,6 +14,7 @@ use Rattle.model.specs.Answers.{judgementOf}
 use Rattle.model.specs.Program.{isIndirect}
 use Rattle.model.specs.File.{byteAt, programIn}
 use Rattle.model.specs.Judgement.{firstBroken, judgement}
+use Rattle.model.specs.Claims.{workOut}
 use Rattle.model.specs.Run.{Seen, RunPost, runOn}
 use Rattle.model.specs.Walk.{Call, hostWrites}
 use Rattle.model.specs.Safety.{EightWords, Bytes, Safe}
@@ -21,13 +22,16 @@ use Rattle.reader.specs.Readings.{reading}
 use Rattle.machine.specs.Core.{seenOf}
 use Rattle.madsjirn.specs.declared.answers.RunAnswer.{RunAnswer}
 use Rattle.madsjirn.specs.declared.answers.VerdictAnswer.{VerdictAnswer}
-use Rattle.madsjirn.specs.Numbers.{moduleNumbers, verdictNumbers, runNumbers, readingIn, judgementIn, reportIn, Leaves}
+use Rattle.madsjirn.specs.Numbers.{moduleNumbers, verdictNumbers, runNumbers, readingIn, judgementIn, reportIn, Leaves, LeavesFile}
 
 -- a verdict that lets a module in: what `verifier::verify::verify` ensures of an answer that is accepted, or `madsjirn_verify` of one
--- whose refusal is 0
+-- whose refusal is 0; and of the file that they leave, what `claims::work_out::work_out` and `madsjirn_work_out` ensure of theirs:
+-- "Safety covers these modules like any others."
 pub data LetIn (file : List ℕ) : Type 0 where
   verified : (v : Verdict) (n k : ℕ) → judgementOf v ≡ judgement file → v ≡ Accepted n k → LetIn file
   verified-by-number : (v : VerdictAnswer) → v ≡ verdictNumbers (judgement file) → v .refusal ≡ 0 → LetIn file
+  worked-out : (came : List ℕ) (v : Verdict) (n k : ℕ) → record { judgement = judgementOf v; bytes = file } ≡ workOut came → v ≡ Accepted n k → LetIn file
+  worked-out-by-number : (came : List ℕ) (v : VerdictAnswer) → LeavesFile (workOut came) v file → v .refusal ≡ 0 → LetIn file
 
 -- what a host sees of an exported call: the answer's numbers read back, the machine and the memory
 abbrev pub seenIn : RunAnswer → Machine → List ℕ → Seen
@@ -59,6 +63,7 @@ pub record HostedAnswers : Type 0 where
 -- The numbers lose nothing: of every file and every call the model's answer is read back from the numbers that a host gets.
 pub record NumbersCarried : Type 0 where
   pub verdict : (file : List ℕ) → judgementIn (verdictNumbers (judgement file)) ≡ judgement file
+  pub worked-out : (file : List ℕ) → judgementIn (verdictNumbers (workOut file .judgement)) ≡ workOut file .judgement
   pub layout : (file : List ℕ) → readingIn (moduleNumbers (reading file)) ≡ reading file
   pub call : (file : List ℕ) (m : Machine) (memory : List ℕ) (offset budget : ℕ)
       → reportIn (runNumbers (runOn file m memory offset budget .report)) ≡ runOn file m memory offset budget .report

@@ -10,6 +10,7 @@ use Rattle.model.specs.declared.Ending.the-variants.{Halted, Trapped, Denied, V
 use Rattle.model.specs.declared.Machine.{Machine}
 use Rattle.model.specs.Obligations.{fault}
 use Rattle.model.specs.Answers.{endingNumber, Judgement, accepted, refused, Report, ended, rejected}
+use Rattle.model.specs.Claims.{Answered}
 use Rattle.model.specs.Run.{Seen}
 use Rattle.reader.specs.Readings as Readings
 use Rattle.reader.specs.Readings.{ReadReport}
@@ -52,6 +53,11 @@ pub record Leaves (seen : Seen) (answer : RunAnswer) (machine : Machine) (memory
   pub numbers : answer ≡ runNumbers (seen .report)
   pub machine-is : machine ≡ seen .machine
   pub memory-is : memory ≡ seen .memory
+
+-- what a host has after claims are worked out: the verdict's numbers and every byte of the file
+pub record LeavesFile (answered : Answered) (answer : VerdictAnswer) (file : List ℕ) : Type 0 where
+  pub numbers : answer ≡ verdictNumbers (answered .judgement)
+  pub file-is : file ≡ answered .bytes
 
 -- ---- from numbers (`NumbersCarried` in Entries says that nothing is lost)
 

@@ -1,5 +1,5 @@
-// The gatekeeper as a static library, for hosts in C and Rust: read, verify, run and step on any bytes, with answers of plain
-// numbers. A slice is a pointer and a length. Nothing is asked of a host beforehand but that its references are valid.
+// The gatekeeper as a static library, for hosts in C and Rust: read, verify, work out claims, run and step on any bytes, with
+// answers of plain numbers. A slice is a pointer and a length. Nothing is asked of a host beforehand but that its references are valid.
 pub mod answers;
 mod hosted;
 
@@ -10,9 +10,10 @@ use model::Machine;
 use model::Steps;
 ghost use mathlib.Core.Path.{_≡_};
 ghost use Rattle.model.specs.Judgement.{judgement};
+ghost use Rattle.model.specs.Claims.{workOut};
 ghost use Rattle.model.specs.Run.{runOn};
 ghost use Rattle.reader.specs.Readings.{reading};
-ghost use Rattle.madsjirn.specs.Numbers.{moduleNumbers, verdictNumbers, Leaves};
+ghost use Rattle.madsjirn.specs.Numbers.{moduleNumbers, verdictNumbers, Leaves, LeavesFile};
 
 // What a module's bytes hold, or the first of refusals 1 to 7.
 #[no_mangle]
@@ -28,6 +29,15 @@ pub extern "C" fn madsjirn_verify(file: &[u8]) -> VerdictAnswer
     ensures { λ r. ⌜ r ≡ verdictNumbers (judgement (now (file .entry))) ⌝ }
 {
     answers::verdict_answer(verifier::verify::verify(file))
+}
+
+// The same on a module's bytes with the claims of its direct targets worked out: where it is accepted they hold these claims, and where
+// it is refused they are as they came.
+#[no_mangle]
+pub extern "C" fn madsjirn_work_out(file: &mut [u8]) -> VerdictAnswer
+    ensures { λ r. ⌜ LeavesFile (workOut (now (file .entry))) r (now (file .exit)) ⌝ }
+{
+    answers::verdict_answer(claims::work_out::work_out(file))
 }
 
 // A run of the module in `file` from the machine that is lent, on the region that begins at `offset` of the memory, with a budget

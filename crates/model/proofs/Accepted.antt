@@ -2,6 +2,7 @@
 -- listed order. Assumes nothing.
 use Prim.Native.Nat.{ℕ, _<_}
 use mathlib.Core.Path.{_≡_}
+use mathlib.Core.Bool.{Bool}
 use mathlib.Core.Logic.{_↔_, Iff·trans}
 use mathlib.Core.List.{List}
 use mathlib.Core.Option.{none, some}
@@ -11,78 +12,91 @@ use Rattle.model.specs.declared.Layout.{Layout}
 use Rattle.model.specs.declared.Machine.{Machine}
 use Rattle.model.specs.Obligations.{Fault, firstFault, AllMet, FirstUnmet}
 use Rattle.model.specs.Program.{Program}
-use Rattle.model.specs.File.{mostInstructions, mostTargets, isListed, field, codeStart, targetsAt, codeIn, targetsIn, instructionCount, targetCount, layoutIn, instructionRules, targetRules, moduleRules, readable, programIn}
+use Rattle.model.specs.File.{mostInstructions, mostTargets, isListed, field, codeStart, targetsAt, codeIn, targetsIn, instructionCount, targetCount, layoutIn, instructionRules, targetRules, moduleRules, readableBy, readable, sweepable, programIn}
 use Rattle.model.specs.Judgement.{atIndex, verified, obligations, firstBroken}
-use Rattle.model.specs.Rules.{FieldKept, SomeOf, InstructionKept, TargetKept, ModuleKept, FileKept, IndexKept, KeepsEveryRule, Runnable}
+use Rattle.model.specs.Rules.{FieldKept, SomeOf, InstructionKept, ModuleHolds, FileHolds, FileKept, FilePlaced, IndexKept, KeepsEveryRule, Runnable}
 use Rattle.model.specs.Run.{runnable}
 use Rattle.model.proofs.Obligations.{none-iff-met, first-unmet, append-met, append-fault, each-met, each-one}
-use Rattle.model.proofs.Reflection.{le-reflects, lt-reflects, eq-reflects, multiple-reflects}
-use Rattle.model.proofs.FileRules.{field-kept, layout-reflects, instruction-reflects, target-reflects}
+use Rattle.model.proofs.Reflection.{Reflects, le-reflects, lt-reflects, eq-reflects, multiple-reflects}
+use Rattle.model.proofs.FileRules.{field-kept, layout-reflects, instruction-reflects, placed-reflects, target-reflects}
 use Rattle.model.proofs.CodeRules.{index-kept}
 
--- rules 5, 6 and 7
-module-iff : (l : Layout) (code targets : List ℕ) → AllMet (moduleRules l code targets) ↔ ModuleKept l code targets
-module-iff l code targets = (
-  λ h.
-      let tables = append-met (instructionRules code) (targetRules (instructionCount code) targets) .0 (h .1) in
-      record {
-        layout = layout-reflects l .0 (h .0);
-        each-instruction = instructions-part .0 (tables .0);
-        each-target = targets-part .0 (tables .1);
-      },
-  λ k. (
-    layout-reflects l .1 (k .layout),
-    append-met (instructionRules code) (targetRules (instructionCount code) targets) .1
-        (instructions-part .1 (k .each-instruction), targets-part .1 (k .each-target)),
-  ),
-)
-  where
-    instructions-part : AllMet (instructionRules code) ↔ ((i : ℕ) → i < instructionCount code → InstructionKept code i)
-    instructions-part = each-one (instructionCount code) 6 (instruction-reflects code)
+-- what is asked of a target is met exactly if a rule is kept
+abbrev pub Judges : (ℕ → List ℕ → ℕ → Bool) → (ℕ → List ℕ → ℕ → Type 0) → Type 0
+Judges good Good = (n : ℕ) (targets : List ℕ) (j : ℕ) → Reflects (good n targets j) (Good n targets j)
 
-    targets-part : AllMet (targetRules (instructionCount code) targets)
-        ↔ ((j : ℕ) → j < targetCount targets → TargetKept (instructionCount code) targets j)
-    targets-part = each-one (targetCount targets) 7 (target-reflects (instructionCount code) targets)
+module _ {good : ℕ → List ℕ → ℕ → Bool} {Good : ℕ → List ℕ → ℕ → Type 0} (judges : Judges good Good) where
+  -- rules 5 and 6, and that one
+  module-iff : (l : Layout) (code targets : List ℕ) → AllMet (moduleRules good l code targets) ↔ ModuleHolds Good l code targets
+  module-iff l code targets = (
+    λ h.
+        let tables = append-met (instructionRules code) (targetRules (good (instructionCount code) targets) targets) .0 (h .1) in
+        record {
+          layout = layout-reflects l .0 (h .0);
+          each-instruction = instructions-part .0 (tables .0);
+          each-target = targets-part .0 (tables .1);
+        },
+    λ k. (
+      layout-reflects l .1 (k .layout),
+      append-met (instructionRules code) (targetRules (good (instructionCount code) targets) targets) .1
+          (instructions-part .1 (k .each-instruction), targets-part .1 (k .each-target)),
+    ),
+  )
+    where
+      instructions-part : AllMet (instructionRules code) ↔ ((i : ℕ) → i < instructionCount code → InstructionKept code i)
+      instructions-part = each-one (instructionCount code) 6 (instruction-reflects code)
+
+      targets-part : AllMet (targetRules (good (instructionCount code) targets) targets)
+          ↔ ((j : ℕ) → j < targetCount targets → Good (instructionCount code) targets j)
+      targets-part = each-one (targetCount targets) 7 (judges (instructionCount code) targets)
+
+  -- rules 1 to 4 besides
+  pub holds-iff : (file : List ℕ) → (firstFault (readableBy good file) ≡ none) ↔ FileHolds Good file
+  unfolding readableBy isListed
+  holds-iff file = Iff·trans (none-iff-met (readableBy good file)) (λ h. kept h, λ k. met k)
+    where
+      layout-part : AllMet (field file 0 1) ↔ FieldKept file 0 1 (λ n. n ≡ 12)
+      layout-part = field-kept file 0 1 (λ n. eq-reflects n 12)
+
+      code-part : AllMet (field file codeStart 2) ↔ FieldKept file codeStart 2 (SomeOf 8 mostInstructions)
+      code-part = field-kept file codeStart 2 (λ n. multiple-reflects 8 mostInstructions n (omega arith))
+
+      targets-part : AllMet (field file (targetsAt file) 3) ↔ FieldKept file (targetsAt file) 3 (SomeOf 68 mostTargets)
+      targets-part = field-kept file (targetsAt file) 3 (λ n. multiple-reflects 68 mostTargets n (omega arith))
+
+      kept : AllMet (readableBy good file) → FileHolds Good file
+      kept h =
+          let fields = append-met (field file 0 1) _ .0 h in
+          let later = append-met (field file codeStart 2) _ .0 (fields .1) in
+          let last = append-met (field file (targetsAt file) 3) _ .0 (later .1) in
+          record {
+            layout-field = layout-part .0 (fields .0);
+            code-field = code-part .0 (later .0);
+            targets-field = targets-part .0 (last .0);
+            no-tail = eq-reflects _ _ .0 (last .1 .0);
+            holds = module-iff (layoutIn file) (codeIn file) (targetsIn file) .0 (last .1 .1);
+          }
+
+      met : FileHolds Good file → AllMet (readableBy good file)
+      met k =
+          append-met (field file 0 1) _ .1 (
+            layout-part .1 (k .layout-field),
+            append-met (field file codeStart 2) _ .1 (
+              code-part .1 (k .code-field),
+              append-met (field file (targetsAt file) 3) _ .1 (
+                targets-part .1 (k .targets-field),
+                (eq-reflects _ _ .1 (k .no-tail), module-iff (layoutIn file) (codeIn file) (targetsIn file) .1 (k .holds)),
+              ),
+            ),
+          )
 
 -- rules 1 to 7
 pub readable-iff : (file : List ℕ) → (firstFault (readable file) ≡ none) ↔ FileKept file
-unfolding readable isListed
-readable-iff file = Iff·trans (none-iff-met (readable file)) (λ h. kept h, λ k. met k)
-  where
-    layout-part : AllMet (field file 0 1) ↔ FieldKept file 0 1 (λ n. n ≡ 12)
-    layout-part = field-kept file 0 1 (λ n. eq-reflects n 12)
+readable-iff = holds-iff target-reflects
 
-    code-part : AllMet (field file codeStart 2) ↔ FieldKept file codeStart 2 (SomeOf 8 mostInstructions)
-    code-part = field-kept file codeStart 2 (λ n. multiple-reflects 8 mostInstructions n (omega arith))
-
-    targets-part : AllMet (field file (targetsAt file) 3) ↔ FieldKept file (targetsAt file) 3 (SomeOf 68 mostTargets)
-    targets-part = field-kept file (targetsAt file) 3 (λ n. multiple-reflects 68 mostTargets n (omega arith))
-
-    kept : AllMet (readable file) → FileKept file
-    kept h =
-        let fields = append-met (field file 0 1) _ .0 h in
-        let later = append-met (field file codeStart 2) _ .0 (fields .1) in
-        let last = append-met (field file (targetsAt file) 3) _ .0 (later .1) in
-        record {
-          layout-field = layout-part .0 (fields .0);
-          code-field = code-part .0 (later .0);
-          targets-field = targets-part .0 (last .0);
-          no-tail = eq-reflects _ _ .0 (last .1 .0);
-          holds = module-iff (layoutIn file) (codeIn file) (targetsIn file) .0 (last .1 .1);
-        }
-
-    met : FileKept file → AllMet (readable file)
-    met k =
-        append-met (field file 0 1) _ .1 (
-          layout-part .1 (k .layout-field),
-          append-met (field file codeStart 2) _ .1 (
-            code-part .1 (k .code-field),
-            append-met (field file (targetsAt file) 3) _ .1 (
-              targets-part .1 (k .targets-field),
-              (eq-reflects _ _ .1 (k .no-tail), module-iff (layoutIn file) (codeIn file) (targetsIn file) .1 (k .holds)),
-            ),
-          ),
-        )
+-- and these but for the order of claims' ends
+pub sweepable-iff : (file : List ℕ) → (firstFault (sweepable file) ≡ none) ↔ FilePlaced file
+sweepable-iff = holds-iff placed-reflects
 
 -- rules 8 to 13
 pub verified-iff : (p : Program) → AllMet (verified p) ↔ ((i : ℕ) → i < length (p .code) → IndexKept p i)

@@ -13,8 +13,8 @@ use Rattle.model.specs.Quantifiers.{anyOf}
 use Rattle.model.specs.Words.{modulus}
 use Rattle.model.specs.Obligations.{AllMet}
 use Rattle.model.specs.Ranges.{low, high}
-use Rattle.model.specs.File.{byteAt, isListed, field, fieldLength, isLayout, isInstruction, instructionIn, targetStart, targetIndex, targetKind, claimIn, isInOrder, isGoodTarget}
-use Rattle.model.specs.Rules.{FieldKept, LayoutKept, InstructionKept, TargetKept}
+use Rattle.model.specs.File.{byteAt, isListed, field, fieldLength, isLayout, isInstruction, instructionIn, targetStart, targetIndex, targetKind, claimIn, isInOrder, isPlacedTarget, isGoodTarget}
+use Rattle.model.specs.Rules.{FieldKept, LayoutKept, InstructionKept, TargetPlaced, TargetKept}
 use Rattle.model.proofs.Reflection.{Reflects, le-reflects, lt-reflects, eq-reflects, and-reflects, implies-reflects, allBelow-reflects, anyBelow-reflects}
 
 -- rules 1, 2, 3 of a field
@@ -83,25 +83,31 @@ order-reflects targets (suc j) =
     Iff·trans (lt-reflects _ _)
     (λ h. (λ q. absurd (omega arith), λ i q. let same : j ≡ i = omega arith in rw same at h), λ h. h .1 j refl)
 
-pub target-reflects : (n : ℕ) (targets : List ℕ) (j : ℕ) → Reflects (isGoodTarget n targets j) (TargetKept n targets j)
-unfolding isGoodTarget
-target-reflects n targets j =
+pub placed-reflects : (n : ℕ) (targets : List ℕ) (j : ℕ) → Reflects (isPlacedTarget n targets j) (TargetPlaced n targets j)
+unfolding isPlacedTarget
+placed-reflects n targets j =
     Iff·trans
-    (and-reflects (and-reflects (and-reflects (and-reflects (and-reflects
+    (and-reflects (and-reflects (and-reflects (and-reflects
     (lt-reflects (targetIndex targets j) n)
     (lt-reflects (targetKind targets j) 2))
     (eq-reflects (byteAt targets (targetStart j + 3)) 0))
-    (allBelow-reflects 8 (λ r. le-reflects (low (claimIn targets j) r) (high (claimIn targets j) r))))
     (implies-reflects (eq-reflects (targetKind targets j) 1) (allBelow-reflects 8 (λ r. and-reflects (eq-reflects _ _) (eq-reflects _ _)))))
     (order-reflects targets j)) (
       λ h. record {
-        inside = h .0 .0 .0 .0 .0;
-        kind = h .0 .0 .0 .0 .1;
-        zero-byte = h .0 .0 .0 .1;
-        ordered = h .0 .0 .1;
+        inside = h .0 .0 .0 .0;
+        kind = h .0 .0 .0 .1;
+        zero-byte = h .0 .0 .1;
         indirect = h .0 .1;
         first = h .1 .0;
         rising = h .1 .1;
       },
-      λ k. (((((k .inside, k .kind), k .zero-byte), k .ordered), k .indirect), (k .first, k .rising)),
+      λ k. ((((k .inside, k .kind), k .zero-byte), k .indirect), (k .first, k .rising)),
     )
+
+pub target-reflects : (n : ℕ) (targets : List ℕ) (j : ℕ) → Reflects (isGoodTarget n targets j) (TargetKept n targets j)
+unfolding isGoodTarget
+target-reflects n targets j =
+    Iff·trans
+    (and-reflects (placed-reflects n targets j)
+    (allBelow-reflects 8 (λ r. le-reflects (low (claimIn targets j) r) (high (claimIn targets j) r))))
+    (λ h. record { placed = h .0; ordered = h .1 }, λ k. (k .placed, k .ordered))

@@ -17,7 +17,7 @@ use Rattle.model.specs.Run.{Run, run, steps, stretch, splice, Seen, fini
 use Rattle.model.proofs.Memory.{stretch-length, splice-length, stretch-splice, splice-splice}
 use Rattle.model.proofs.Accepted.{runnable-iff}
 use Rattle.model.proofs.Steady.{RunSteady}
-use Rattle.model.proofs.Targets.{code-length, readable-steady}
+use Rattle.model.proofs.Targets.{code-length, module-placed, readable-steady}
 use Rattle.model.proofs.Joining.{joining}
 
 -- the run of a call: on the stretch at its offset
@@ -70,7 +70,7 @@ module _ (file : List ℕ) (m : Machine) (memory : List ℕ) (offset first : ℕ
 
     first-steady : RunSteady (programIn file) m (stretch offset size memory) firstRun
     first-steady =
-        readable-steady (asked .file-rules .holds) m (stretch offset size memory) (asked .pc-inside) .1 first
+        readable-steady (module-placed (asked .file-rules .holds)) m (stretch offset size memory) (asked .pc-inside) .1 first
 
     region-between : length (firstRun .region) ≡ size
     region-between = first-steady .region-length ∙ stretch-length offset size memory (asked .fits)

@@ -18,11 +18,14 @@ pub mod RuleW
 pub mod Values
 pub mod Containment
 pub mod Cuts
+pub mod Decoding
 pub mod Sound
 pub mod Accuracy
 pub mod Signs
+pub mod Writing
 pub mod LongFiles
 pub mod Numbers
 pub mod Rows
 pub mod Line
+pub mod Claims
 pub mod Promises

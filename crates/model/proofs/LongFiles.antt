@@ -1,6 +1,6 @@
 -- A file that is longer than any module is judged by its first bytes: what is judged of its three fields looks at bytes that every
 -- module has room for, and if all that is met there is a tail. Assumes nothing.
-use Prim.Native.Nat.{ℕ, zero, suc, _+_, _*_, _≤_, _<_}
+use Prim.Native.Nat.{ℕ, _+_, _*_, _≤_, _<_}
 use mathlib.Core.Path.{_≡_, refl, sym, ap, _∙_}
 use mathlib.Core.Bool.{Bool, true, false}
 use mathlib.Core.List.{List, _∷_, _++_}
@@ -11,12 +11,12 @@ use lib.Dec.{leb, eqb}
 use lib.ListN.{length, take}
 use lib.Seq.{getD-take, length-take-le}
 use borrow.Author.Tests.{le-leb, ne-eqb}
-use Rattle.model.specs.Words.{readBytes}
 use Rattle.model.specs.Obligations.{Fault, fault, Obligation, owes, firstFault}
-use Rattle.model.specs.File.{byteAt, fieldLength, valueAt, fieldEnd, mostInstructions, mostTargets, isMultiple, isListed, field, codeStart, targetsAt, readable}
+use Rattle.model.specs.File.{byteAt, fieldLength, valueAt, fieldEnd, mostInstructions, mostTargets, isMultiple, isListed, field, codeStart, targetsAt, readableBy, readable}
 use Rattle.model.specs.Judgement.{obligations, firstBroken, concluded, judgement}
 use Rattle.model.proofs.Faults.{append-faulty}
 use Rattle.model.proofs.Reflection.{eq-reflects, multiple-reflects}
+use Rattle.model.proofs.Writing.{same-number}
 
 -- ---- two lists of obligations that are refused with one fault
 
@@ -52,13 +52,6 @@ multiple-short unit most n positive passes =
     let (count, _, at-most, is) = multiple-reflects unit most n positive .0 passes in
     rw is (mul-le-mul-left unit at-most)
 
--- numbers of the same bytes are the same
-same-number : (n : ℕ) (x y : List ℕ) (at : ℕ) → ((i : ℕ) → i < at + n → byteAt x i ≡ byteAt y i)
-    → readBytes n x at ≡ readBytes n y at
-unfolding readBytes
-same-number zero x y at same = refl
-same-number (suc n) x y at same = rw (same at (omega arith), same-number n x y (suc at) (λ i below. same i (omega arith)))
-
 -- a file that goes on behind its fields has a tail
 tail-fault : (bytes : List ℕ) (end : ℕ) (os : List Obligation) → end < length bytes
     → firstFault (owes 4 end (eqb (length bytes) end) ∷ os) ≡ some (fault 4 end)
@@ -79,7 +72,7 @@ module _ (file : List ℕ) (m : ℕ) (long : 50198 ≤ m) (inside : m ≤ length
   same-byte i below = getD-take m file i 0 (omega arith)
 
   same-length : (at : ℕ) → valueAt at ≤ 50198 → fieldLength front at ≡ fieldLength file at
-  same-length at header = same-number 2 front file (at + 1) (λ i below. same-byte i (omega arith))
+  same-length at header = same-number 2 front file (at + 1) (λ i _ below. same-byte i (omega arith))
 
   both-hold : (end : ℕ) → end ≤ 50198 → leb end (length front) ≡ leb end (length file)
   both-hold end short = le-leb end (length front) (omega (arith, front-length)) ∙ sym (le-leb end (length file) (omega arith))
@@ -120,7 +113,7 @@ module _ (file : List ℕ) (m : ℕ) (long : 50198 ≤ m) (inside : m ≤ length
       same = same-length at (omega arith)
 
   refused-alike : RefusedAlike (obligations front) (obligations file)
-  unfolding obligations readable isListed
+  unfolding obligations readableBy isListed
   refused-alike =
       followed-alike (readable front) (readable file) _ _
       (field-alike 0 1 12 (λ n listed. omega (arith, eq-reflects n 12 .0 listed)) (omega arith)

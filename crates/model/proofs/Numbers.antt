@@ -10,7 +10,7 @@ use native.Mathlib.Omega.{arith}
 use Rattle.model.specs.declared.Machine.{Machine}
 use Rattle.model.specs.Obligations.{Fault, Obligation, faultUnless, firstFault, eachFrom}
 use Rattle.model.specs.Answers.{refused, rejected}
-use Rattle.model.specs.File.{codeStart, targetsAt, codeIn, targetsIn, instructionCount, targetCount, instructionRules, field, layoutIn, readable, programIn}
+use Rattle.model.specs.File.{codeStart, targetsAt, codeIn, targetsIn, instructionCount, targetCount, instructionRules, field, layoutIn, readableBy, readable, sweepable, programIn}
 use Rattle.model.specs.Judgement.{beforeNext, atIndex, verified, obligations, firstBroken, concluded, judgement}
 use Rattle.model.specs.Run.{Run, run, stretch, Seen, finished, runnable, unlessRefused, runOn}
 use Rattle.model.specs.Promises.{RefusalsListed, RefusalKeeps}
@@ -46,9 +46,9 @@ module _ (P : ℕ → Type 0) where
     field-numbered file at tag =
         (low 1 (omega arith) (omega arith), (low 2 (omega arith) (omega arith), (low 3 (omega arith) (omega arith), (low 1 (omega arith) (omega arith), tt))))
 
-    readable-numbered : (file : List ℕ) → Numbered (readable file)
-    unfolding readable
-    readable-numbered file =
+    readable-numbered : (good : ℕ → List ℕ → ℕ → Bool) (file : List ℕ) → Numbered (readableBy good file)
+    unfolding readableBy
+    readable-numbered good file =
         append-numbered (field file 0 1) _ (field-numbered file 0 1)
         (append-numbered (field file codeStart 2) _ (field-numbered file codeStart 2)
         (append-numbered (field file (targetsAt file) 3) _ (field-numbered file (targetsAt file) 3) (
@@ -68,7 +68,7 @@ ForVerdict n = (1 ≤ n) × (n ≤ 13)
 obligations-numbered : (file : List ℕ) → Numbered ForVerdict (obligations file)
 unfolding obligations verified atIndex beforeNext
 obligations-numbered file =
-    append-numbered ForVerdict (readable file) _ (readable-numbered ForVerdict (λ n least most. omega arith) file)
+    append-numbered ForVerdict (readable file) _ (readable-numbered ForVerdict (λ n least most. omega arith) _ file)
     (each-numbered ForVerdict 0 _ (atIndex (programIn file))
     (λ i. (omega arith, (omega arith, (omega arith, (omega arith, (omega arith, (omega arith, (omega arith, tt)))))))))
 
@@ -79,12 +79,17 @@ ForRun n = ((1 ≤ n) × (n ≤ 7)) ⊎ ((14 ≤ n) × (n ≤ 15))
 runnable-numbered : (file : List ℕ) (m : Machine) (memory : List ℕ) (offset : ℕ) → Numbered ForRun (runnable file m memory offset)
 unfolding runnable
 runnable-numbered file m memory offset =
-    append-numbered ForRun (readable file) _ (readable-numbered ForRun (λ n least most. inl (least, most)) file)
+    append-numbered ForRun (readable file) _ (readable-numbered ForRun (λ n least most. inl (least, most)) _ file)
     (inr (omega arith), (inr (omega arith), tt))
 
 -- what is named is one of them
 pub readable-listed : (file : List ℕ) (f : Fault) → firstFault (readable file) ≡ some f → 1 ≤ f .number
-readable-listed file f named = first-numbered (λ n. 1 ≤ n) (readable file) f (readable-numbered (λ n. 1 ≤ n) (λ n least most. least) file) named
+readable-listed file f named = first-numbered (λ n. 1 ≤ n) (readable file) f (readable-numbered (λ n. 1 ≤ n) (λ n least most. least) _ file) named
+
+pub sweepable-listed : (file : List ℕ) (f : Fault) → firstFault (sweepable file) ≡ some f → (1 ≤ f .number) × (f .number ≤ 7)
+sweepable-listed file f named =
+    first-numbered (λ n. (1 ≤ n) × (n ≤ 7)) (sweepable file) f
+    (readable-numbered (λ n. (1 ≤ n) × (n ≤ 7)) (λ n least most. (least, most)) _ file) named
 
 pub judged-listed : (file : List ℕ) (f : Fault) → firstBroken file ≡ some f → ForVerdict (f .number)
 unfolding firstBroken
@@ -94,7 +99,7 @@ pub runnable-listed : (file : List ℕ) (m : Machine) (memory : List ℕ) (offse
     → firstFault (runnable file m memory offset) ≡ some f → ForRun (f .number)
 runnable-listed file m memory offset f named = first-numbered ForRun (runnable file m memory offset) f (runnable-numbered file m memory offset) named
 
-refused-judged : (file : List ℕ) (f : Fault) → judgement file ≡ refused f → firstBroken file ≡ some f
+pub refused-judged : (file : List ℕ) (f : Fault) → judgement file ≡ refused f → firstBroken file ≡ some f
 unfolding judgement
 refused-judged file f is = by-fault (firstBroken file) is
   where

@@ -21,11 +21,12 @@ use Rattle.model.specs.Walk.{Call, hostWrites, Called, done, call}
 use Rattle.model.specs.Safety.{InZones}
 use Rattle.model.specs.Outcomes as Outcomes
 use Rattle.model.specs.Walks as Walks
+use Rattle.model.specs.Worked as Worked
 use Rattle.model.specs.Promises.{AcceptedIff, RunIff, RefusalFirst, LongFiles, StepsSteady, CallsJoin, KnownOutcomes, KnownRequests, ZonesAgree, CallsAnswer, KnownWalks}
 use Rattle.model.proofs.Tests.{by-cond}
 use Rattle.model.proofs.Reflection.{Reflects, le-reflects, and-reflects}
 use Rattle.model.proofs.Accepted.{accepted-iff, runnable-iff, refusal-first, run-refusal-first}
-use Rattle.model.proofs.Targets.{code-length, readable-steady}
+use Rattle.model.proofs.Targets.{code-length, module-placed, readable-steady}
 use Rattle.model.proofs.JoiningCalls.{joining-calls, runs-join}
 use Rattle.model.proofs.LongFiles.{long-file}
 use Rattle.model.proofs.Rows.{agrees, every, all-agree}
@@ -80,7 +81,7 @@ pub steps-steady : StepsSteady
 steps-steady = record {
   ending = step-keeps;
   inside = λ file kept m bs below.
-      let steady = readable-steady (kept .holds) m bs below .0 in
+      let steady = readable-steady (module-placed (kept .holds)) m bs below .0 in
       (rw code-length at (steady .pc-inside), steady .registers-length, steady .region-length);
 }
 
@@ -92,8 +93,13 @@ unfolding Outcomes.table Outcomes.numbers every agrees
 known-outcomes = record { compares = λ n given expected same. same; agree = all-agree Outcomes.table refl; complete = refl }
 
 pub known-requests : KnownRequests
-unfolding Outcomes.requests Outcomes.numbers every agrees
-known-requests = record { agree = all-agree Outcomes.requests refl; complete = refl }
+unfolding Outcomes.requests Worked.table Outcomes.numbers every agrees
+known-requests = record {
+  agree = all-agree Outcomes.requests refl;
+  complete = refl;
+  worked = all-agree Worked.table refl;
+  worked-complete = refl;
+}
 
 -- ---- demand 3's terms
 

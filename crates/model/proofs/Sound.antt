@@ -1,12 +1,9 @@
 -- Sound shapes: what the accuracy of the ranges asks of an instruction, and that every instruction of a module has it.
 -- Assumes nothing.
-use Prim.Native.Nat.{ℕ, zero, suc, _+_, _<_}
-use mathlib.Core.Path.{_≡_, refl, subst}
-use mathlib.Core.Bool.{Bool, true, false}
-use mathlib.Core.List.{List, [], _∷_}
-use mathlib.Core.Option.{Option, none, some, Option·map, Option·getD}
+use Prim.Native.Nat.{ℕ, _<_}
+use mathlib.Core.List.{List}
+use mathlib.Core.Option.{Option, some}
 use borrow.Author.Tests.{ltb-true}
-use lib.ListN.{getD}
 use Rattle.model.specs.declared.Instruction.{Instruction}
 use Rattle.model.specs.declared.Instruction.the-variants.{Halt, Set, Copy, Add, Addi, Sub, Andi, Guard, Shr, Sar, Load, Store, Jump, Branch, Check, Jumpr}
 use Rattle.model.specs.declared.Layout.{Layout}
@@ -19,13 +16,13 @@ use Rattle.model.specs.Words.{modulus, signed}
 use Rattle.model.specs.Ranges.{rangeOf, regionRange}
 use Rattle.model.specs.Instructions.{widthRead, reg, Access, loadAccess, Shape, stops, assigns, loads, stores, jumps, branches, checks, jumpsVia, shape}
 use Rattle.model.specs.Step.{shapeAt}
-use Rattle.model.specs.File.{byteAt, isRegister, hasNothing, hasA, hasAB, hasAAmount, hasImm, hasAImm, hasABWImm, provided, rows, widthOf, loadWidthOf, testOf, decode, instructionAt, instructionIn, instructionCount, programOf}
+use Rattle.model.specs.File.{byteAt, isRegister, hasNothing, hasA, hasAB, hasAAmount, hasImm, hasAImm, hasABWImm, provided, rows, widthOf, loadWidthOf, testOf, programOf}
 use Rattle.model.specs.Rules.{LayoutKept}
 use Rattle.model.specs.Safety.{EightWords}
 use Rattle.model.specs.Accuracy.{Within}
 use Rattle.model.proofs.Tests.{and-left, and-right}
-use Rattle.model.proofs.Tabulate.{tabulate-everywhere}
-use Rattle.model.proofs.Registers.{read-below}
+use Rattle.model.proofs.Claims.Each.{IfThere}
+use Rattle.model.proofs.Decoding.{Rows, no-more, _then_, provided-row, mapped-row, code-holds}
 use Rattle.model.proofs.RuleW.{Signed32, signed-signed32}
 use Rattle.model.proofs.Values.{Fits, register-fits, constant-fits, add-fits, addi-fits, sub-fits, and-fits, guard-fits, shr-fits, sar-fits}
 
@@ -58,57 +55,40 @@ Sound l (jumpsVia a) = a < 8
 
 -- ---- the rows of the instructions' table
 
+abbrev SoundIn : Layout → Instruction → Type 0
+SoundIn l i = Sound l (shape i)
+
 abbrev SoundRow : Layout → Option Instruction → Type 0
-SoundRow l none = Unit {0}
-SoundRow l (some i) = Sound l (shape i)
-
-infixr 5 _then_
-data SoundRows (l : Layout) : List (Option Instruction) → Type 0 where
-  no-more : SoundRows l []
-  _then_ : {row : Option Instruction} {more : List (Option Instruction)} → SoundRow l row → SoundRows l more → SoundRows l (row ∷ more)
-
-row-sound : {l : Layout} {table : List (Option Instruction)} → SoundRows l table → (op : ℕ) → SoundRow l (getD table op none)
-row-sound no-more op = tt
-row-sound (row then more) zero = row
-row-sound (row then more) (suc op) = row-sound more op
-
-module _ (l : Layout) where
-  provided-sound : (test : Bool) (row : Option Instruction) → (test ≡ true → SoundRow l row) → SoundRow l (provided test row)
-  provided-sound true row sound = sound refl
-  provided-sound false row sound = tt
-
-  mapped-sound : {A : Type 0} (f : A → Instruction) (o : Option A) → ((x : A) → Sound l (shape (f x))) → SoundRow l (Option·map f o)
-  mapped-sound f none sound = tt
-  mapped-sound f (some x) sound = sound x
+SoundRow l = IfThere (SoundIn l)
 
 module _ {l : Layout} (lk : LayoutKept l) (a b w imm : ℕ) (imm-word : imm < modulus) where
   -- a row is sound if it is so where the bytes that it uses are in range: a alone, a and imm, a and w, a and b, or all four
   uses-a : (row : Option Instruction) → (a < 8 → SoundRow l row)
       → SoundRow l (provided (hasA a b w imm) row)
   uses-a row sound =
-      provided-sound l (hasA a b w imm) row
+      provided-row (SoundIn l) (hasA a b w imm) row
       (λ t. sound (search (and-left, and-right, ltb-true)))
 
   uses-a-imm : (row : Option Instruction) → (a < 8 → SoundRow l row)
       → SoundRow l (provided (hasAImm a b w) row)
   uses-a-imm row sound =
-      provided-sound l (hasAImm a b w) row (λ t. sound (search (and-left, and-right, ltb-true)))
+      provided-row (SoundIn l) (hasAImm a b w) row (λ t. sound (search (and-left, and-right, ltb-true)))
 
   uses-a-w : (row : Option Instruction) → (a < 8 → SoundRow l row)
       → SoundRow l (provided (hasAAmount a b w imm) row)
   uses-a-w row sound =
-      provided-sound l (hasAAmount a b w imm) row
+      provided-row (SoundIn l) (hasAAmount a b w imm) row
       (λ t. sound (search (and-left, and-right, ltb-true)))
 
   uses-a-b : (row : Option Instruction) → (a < 8 → b < 8 → SoundRow l row)
       → SoundRow l (provided (hasAB a b w imm) row)
   uses-a-b row sound =
-      provided-sound l (hasAB a b w imm) row
+      provided-row (SoundIn l) (hasAB a b w imm) row
       (λ t. sound (search (and-left, and-right, ltb-true)) (search (and-left, and-right, ltb-true)))
 
   uses-all : (row : Option Instruction) → (a < 8 → b < 8 → SoundRow l row) → SoundRow l (provided (hasABWImm a b) row)
   uses-all row sound =
-      provided-sound l (hasABWImm a b) row
+      provided-row (SoundIn l) (hasABWImm a b) row
       (λ t. sound (ltb-true a 8 (and-left (isRegister a) (isRegister b) t)) (ltb-true b 8 (and-right (isRegister a) (isRegister b) t)))
 
   -- a new value that is made from the registers a, or a and b, fits if it does so where they fit
@@ -130,10 +110,10 @@ module _ {l : Layout} (lk : LayoutKept l) (a b w imm : ℕ) (imm-word : imm < mo
   access-sound : a < 8 → b < 8 → (v : Width) → SoundAccess a (record { pointer = b; width = v; displacement = signed imm })
   access-sound a8 b8 v = record { register = a8; pointer = b8; displacement = imm-signed }
 
-  rows-sound : SoundRows l (rows a b w imm)
+  rows-sound : Rows (SoundIn l) (rows a b w imm)
   unfolding rows shape
   rows-sound =
-      provided-sound l (hasNothing a b w imm) (some Halt) (λ _. tt)
+      provided-row (SoundIn l) (hasNothing a b w imm) (some Halt) (λ _. tt)
       then uses-a-imm (some (Set a imm)) (λ a8. from-a a8 (λ k rs x. constant-fits imm imm-word))
       then uses-a-b (some (Copy a b)) (λ a8 b8. from-a-b a8 b8 (λ k rs x y. y))
       then uses-a-b (some (Add a b)) (λ a8 b8. from-a-b a8 b8 (λ k rs x y. add-fits x y))
@@ -143,39 +123,16 @@ module _ {l : Layout} (lk : LayoutKept l) (a b w imm : ℕ) (imm-word : imm < mo
       then uses-a (some (Guard a)) (λ a8. from-a a8 (λ k rs x. guard-fits lk x))
       then uses-a-w (some (Shr a w)) (λ a8. from-a a8 (λ k rs x. shr-fits w x))
       then uses-a-w (some (Sar a w)) (λ a8. from-a a8 (λ k rs x. sar-fits w x))
-      then uses-all _ (λ a8 b8. mapped-sound l (λ (v : LoadWidth). Load a b v (signed imm)) (loadWidthOf w) (λ v. access-sound a8 b8 (widthRead v)))
-      then uses-all _ (λ a8 b8. mapped-sound l (λ (v : Width). Store a b v (signed imm)) (widthOf w) (access-sound a8 b8))
-      then provided-sound l (hasImm a b w) (some (Jump imm)) (λ _. tt)
-      then uses-all _ (λ a8 b8. mapped-sound l (λ (t : Test). Branch a b t imm) (testOf w) (λ t. record { left = a8; right = b8 }))
+      then uses-all _ (λ a8 b8. mapped-row (SoundIn l) (λ (v : LoadWidth). Load a b v (signed imm)) (loadWidthOf w) (λ v. access-sound a8 b8 (widthRead v)))
+      then uses-all _ (λ a8 b8. mapped-row (SoundIn l) (λ (v : Width). Store a b v (signed imm)) (widthOf w) (access-sound a8 b8))
+      then provided-row (SoundIn l) (hasImm a b w) (some (Jump imm)) (λ _. tt)
+      then uses-all _ (λ a8 b8. mapped-row (SoundIn l) (λ (t : Test). Branch a b t imm) (testOf w) (λ t. record { left = a8; right = b8 }))
       then uses-a (some (Check a)) (λ a8. a8)
       then uses-a (some (Jumpr a)) (λ a8. a8)
       then no-more
 
-  decoded-row-sound : (op : ℕ) → SoundRow l (decode op a b w imm)
-  unfolding decode
-  decoded-row-sound op = row-sound rows-sound op
-
--- ---- the instructions of a module
-
--- what is decoded is sound
-pub decode-sound : {l : Layout} → LayoutKept l → (op a b w imm : ℕ) → imm < modulus
-    → (i : Instruction) → decode op a b w imm ≡ some i → Sound l (shape i)
-decode-sound {l} lk op a b w imm imm-word i e = subst (SoundRow l) e (decoded-row-sound lk a b w imm imm-word op)
-
-module _ (code : List ℕ) (bytes : (i : ℕ) → byteAt code i < 256) {l : Layout} (lk : LayoutKept l) where
-  -- the instruction at an index of the code is sound
-  pub instruction-sound : (j : ℕ) (i : Instruction) → instructionIn code j ≡ some i → Sound l (shape i)
-  unfolding instructionIn
-  instruction-sound j i e = decode-sound lk _ _ _ _ _ (read-below 4 code (instructionAt j + 4) bytes) i e
-
-  or-halt-sound : (j : ℕ) (o : Option Instruction) → instructionIn code j ≡ o → Sound l (shape (Option·getD o Halt))
-  unfolding shape
-  or-halt-sound j none e = tt
-  or-halt-sound j (some i) e = instruction-sound j i e
-
-  -- every index of a module has a sound shape
-  pub code-sound : (targets : List ℕ) (j : ℕ) → Sound l (shapeAt (programOf l code targets) j)
-  unfolding programOf shape
-  code-sound targets j =
-      tabulate-everywhere (λ (i : Instruction). Sound l (shape i)) (λ i. Option·getD (instructionIn code i) Halt) Halt
-      (λ i. or-halt-sound i (instructionIn code i) refl) tt 0 (instructionCount code) j
+-- every index of a module has a sound shape
+pub code-sound : (code : List ℕ) → ((i : ℕ) → byteAt code i < 256) → {l : Layout} → LayoutKept l → (targets : List ℕ) (j : ℕ)
+    → Sound l (shapeAt (programOf l code targets) j)
+unfolding shape
+code-sound code bytes {l} lk targets j = code-holds (SoundIn l) (rows-sound lk) tt code bytes l targets j

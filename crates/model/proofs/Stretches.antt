@@ -1,7 +1,7 @@
 -- The stretches of a file's three values: where a field is kept, its value is the bytes behind its header, as many as its length
--- says; and they are bytes where the file's are. Assumes nothing.
-use Prim.Native.Nat.{ℕ, _+_, _≤_, _<_}
-use mathlib.Core.Path.{_≡_, refl, ap, _∙_}
+-- says, and the last one's are the rest of the file; and they are bytes where the file's are. Assumes nothing.
+use Prim.Native.Nat.{ℕ, _+_, _*_, _≤_, _<_}
+use mathlib.Core.Path.{_≡_, refl, sym, ap, _∙_}
 use mathlib.Core.Bool.{Bool, true, false}
 use mathlib.Core.List.{List}
 use mathlib.Core.Option.{Option, none, some}
@@ -9,12 +9,12 @@ use native.Mathlib.Omega.{arith}
 use borrow.Author.Tests.{ltb-true, ltb-false}
 use lib.Dec.{ltb}
 use lib.ListN.{length, getD, take, drop, length-drop, length-take, List·getD-eq-default}
-use lib.Seq.{getD-take, getD-drop, length-take-le}
+use lib.Seq.{getD-take, getD-drop, length-take-le, take-all}
 use Rattle.model.specs.Obligations.{Fault, firstFault}
-use Rattle.model.specs.File.{fieldLength, valueAt, mostInstructions, mostTargets, isListed, field, unlessFault, fieldValue, codeStart, targetsAt, codeIn, targetsIn}
-use Rattle.model.specs.Rules.{FieldKept, SomeOf, FileKept}
+use Rattle.model.specs.File.{fieldLength, valueAt, fieldEnd, mostInstructions, mostTargets, isListed, field, unlessFault, fieldValue, codeStart, targetsAt, codeIn, targetsIn, targetCount}
+use Rattle.model.specs.Rules.{FieldKept, SomeOf, FileHolds}
 use Rattle.model.proofs.Obligations.{none-iff-met}
-use Rattle.model.proofs.Reflection.{Reflects, multiple-reflects}
+use Rattle.model.proofs.Reflection.{Reflects, eq-reflects, multiple-reflects}
 use Rattle.model.proofs.FileRules.{field-kept}
 
 module _ (file : List ℕ) (at tag : ℕ) where
@@ -28,6 +28,13 @@ module _ (file : List ℕ) (at tag : ℕ) where
   value-length listed kept =
       ap length (value-stretch (none-iff-met (field file at tag) .1 (field-kept file at tag listed .1 kept)))
       ∙ length-take-le (fieldLength file at) (drop (valueAt at) file) (simp length-drop (omega (arith, kept .value)))
+
+  -- where the file ends with it, all that stands behind its header
+  pub value-rest : {Listed : ℕ → Type 0} → ((n : ℕ) → Reflects (isListed tag n) (Listed n)) → FieldKept file at tag Listed
+      → length file ≡ fieldEnd file at → drop (valueAt at) file ≡ fieldValue file at tag
+  value-rest listed kept no-tail =
+      sym (value-stretch (none-iff-met (field file at tag) .1 (field-kept file at tag listed .1 kept))
+      ∙ take-all (fieldLength file at) (drop (valueAt at) file) (simp length-drop (omega arith)))
 
   -- bytes of a file's value are bytes
   pub value-bytes : ((i : ℕ) → getD file i 0 < 256) → (i : ℕ) → getD (fieldValue file at tag) i 0 < 256
@@ -45,13 +52,33 @@ module _ (file : List ℕ) (at tag : ℕ) where
       by-fault none = by-place (fieldLength file at) (ltb i (fieldLength file at)) refl
       by-fault (some f) = omega arith
 
--- the code has whole instructions, and the targets' bytes whole targets
-pub code-whole : (file : List ℕ) → FileKept file → SomeOf 8 mostInstructions (length (codeIn file))
+-- the lengths that are listed for each
+pub layout-listed : (n : ℕ) → Reflects (isListed 1 n) (n ≡ 12)
 unfolding isListed
-code-whole file kept =
-    rw (value-length file codeStart 2 (λ n. multiple-reflects 8 mostInstructions n (omega arith)) (kept .code-field)) (kept .code-field .listed)
+layout-listed n = eq-reflects n 12
 
-pub targets-whole : (file : List ℕ) → FileKept file → SomeOf 68 mostTargets (length (targetsIn file))
+pub code-listed : (n : ℕ) → Reflects (isListed 2 n) (SomeOf 8 mostInstructions n)
 unfolding isListed
-targets-whole file kept =
-    rw (value-length file (targetsAt file) 3 (λ n. multiple-reflects 68 mostTargets n (omega arith)) (kept .targets-field)) (kept .targets-field .listed)
+code-listed n = multiple-reflects 8 mostInstructions n (omega arith)
+
+pub targets-listed : (n : ℕ) → Reflects (isListed 3 n) (SomeOf 68 mostTargets n)
+unfolding isListed
+targets-listed n = multiple-reflects 68 mostTargets n (omega arith)
+
+-- what rules 1 to 4 say of them, whatever is asked of a target
+module _ {Good : ℕ → List ℕ → ℕ → Type 0} (file : List ℕ) (kept : FileHolds Good file) where
+  -- the code has whole instructions, and the targets' bytes whole targets
+  pub code-whole : SomeOf 8 mostInstructions (length (codeIn file))
+  code-whole = rw (value-length file codeStart 2 code-listed (kept .code-field)) (kept .code-field .listed)
+
+  pub targets-whole : SomeOf 68 mostTargets (length (targetsIn file))
+  targets-whole = rw (value-length file (targetsAt file) 3 targets-listed (kept .targets-field)) (kept .targets-field .listed)
+
+  -- the targets' bytes are the rest of the file
+  pub targets-rest : drop (valueAt (targetsAt file)) file ≡ targetsIn file
+  targets-rest = value-rest file (targetsAt file) 3 targets-listed (kept .targets-field) (kept .no-tail)
+
+  pub file-length : length file ≡ valueAt (targetsAt file) + 68 * targetCount (targetsIn file)
+  file-length =
+      let whole = targets-whole in
+      omega (arith, whole .3, kept .no-tail, length-drop (valueAt (targetsAt file)) file, ap length targets-rest)

@@ -1,8 +1,7 @@
--- The code and the targets of a module: an index has the instruction of its bytes; and, where rules 5 to 7 are kept, what is found
+-- The code and the targets of a module: an index has the instruction of its bytes; and, where rules 5 to 7 are kept but for the order of claims' ends, what is found
 -- at an index is one of its targets, it lies inside the code, and an indirect one claims nothing. Assumes nothing.
 use Prim.Native.Nat.{ℕ, zero, suc, _+_, _≤_, _<_}
-use mathlib.Core.Path.{_≡_, refl, sym, ap, _∙_, subst}
-use native.Mathlib.Nat.{zero-add}
+use mathlib.Core.Path.{_≡_, refl, sym, subst}
 use mathlib.Core.Bool.{Bool, true, false}
 use mathlib.Core.List.{List}
 use mathlib.Core.Option.{Option, some, Option·none-ne-some, Option·some-injective, Option·getD}
@@ -18,10 +17,10 @@ use Rattle.model.specs.Ranges.{low, high}
 use Rattle.model.specs.Program.{codeAt, targetAt}
 use Rattle.model.specs.Step.{step}
 use Rattle.model.specs.File.{instructionCount, targetCount, instructionIn, tabulate, claimIn, targetIn, indirectClaim, programOf}
-use Rattle.model.specs.Rules.{TargetKept, ModuleKept}
+use Rattle.model.specs.Rules.{TargetPlaced, ModuleKept, ModulePlaced}
 use Rattle.model.specs.Run.{run}
 use Rattle.model.proofs.Steady.{TargetsInside, Steady, RunSteady, step-steady, run-steady}
-use Rattle.model.proofs.Tabulate.{length-tabulate, tabulate-at}
+use Rattle.model.proofs.Tabulate.{length-tabulate, table-at}
 
 module _ (l : Layout) (code targets : List ℕ) where
   -- a module has as many instructions as its code has bytes for
@@ -33,8 +32,7 @@ module _ (l : Layout) (code targets : List ℕ) where
   pub code-at : (i : ℕ) → i < instructionCount code → Option·getD (instructionIn code i) Halt ≡ codeAt (programOf l code targets) i
   unfolding programOf
   code-at i below =
-      sym (tabulate-at (λ j. Option·getD (instructionIn code j) Halt) Halt 0 (instructionCount code) i below
-      ∙ ap (λ (j : ℕ). Option·getD (instructionIn code j) Halt) (zero-add i))
+      sym (table-at (λ j. Option·getD (instructionIn code j) Halt) Halt (instructionCount code) i below)
 
 -- what is found at index i in a table of targets is the entry of some number, and has that index
 pub record Found (f : ℕ → Target) (from count i : ℕ) (t : Target) : Type 0 where
@@ -59,6 +57,14 @@ found f from (suc count) i t e = here-or-later (eqb (f from .index) i) refl (λ 
         let l = later q in
         record { number = l .number; least = omega (arith, l .least); most = omega (arith, l .most); is = l .is; index = l .index }
 
+-- what keeps 7 keeps it but for the order of claims' ends
+pub module-placed : {l : Layout} {code targets : List ℕ} → ModuleKept l code targets → ModulePlaced l code targets
+module-placed kept = record {
+  layout = kept .layout;
+  each-instruction = kept .each-instruction;
+  each-target = λ j below. kept .each-target j below .placed;
+}
+
 -- what is said of a target of a module
 pub record TargetFacts (n i : ℕ) (t : Target) : Type 0 where
   pub inside : i < n
@@ -67,13 +73,13 @@ pub record TargetFacts (n i : ℕ) (t : Target) : Type 0 where
   pub indirect : t .indirect ≡ true → (r : ℕ) → r < 8
       → (low (t .claim) r ≡ low indirectClaim r) × (high (t .claim) r ≡ high indirectClaim r)
 
-module _ {l : Layout} {code targets : List ℕ} (kept : ModuleKept l code targets) where
+module _ {l : Layout} {code targets : List ℕ} (kept : ModulePlaced l code targets) where
   pub target-facts : (i : ℕ) (t : Target) → targetAt (programOf l code targets .targets) i ≡ some t
       → TargetFacts (length (programOf l code targets .code)) i t
   unfolding programOf targetIn claimIn
   target-facts i t e =
       let f : Found (targetIn targets) 0 (targetCount targets) i t = found (targetIn targets) 0 (targetCount targets) i t e in
-      let good : TargetKept (instructionCount code) targets (f .number) = kept .each-target (f .number) (omega (arith, f .most)) in
+      let good : TargetPlaced (instructionCount code) targets (f .number) = kept .each-target (f .number) (omega (arith, f .most)) in
       subst (TargetFacts (length (programOf l code targets .code)) i) (f .is)
       (record {
         inside = omega (arith, good .inside, f .index, code-length l code targets);

@@ -245,36 +245,50 @@ abbrev pub isInOrder : List ℕ → ℕ → Bool
 isInOrder targets zero = eqb (targetIndex targets 0) 0 && eqb (targetKind targets 0) 1
 isInOrder targets (suc j) = ltb (targetIndex targets j) (targetIndex targets (suc j))
 
--- "and are below n. No lowest exceeds its highest."
-unfoldable pub isGoodTarget : ℕ → List ℕ → ℕ → Bool
-isGoodTarget n targets j =
+-- "and are below n.": all that is asked of a target but the order of its claim's ends
+unfoldable pub isPlacedTarget : ℕ → List ℕ → ℕ → Bool
+isPlacedTarget n targets j =
     ltb (targetIndex targets j) n && ltb (targetKind targets j) 2 && eqb (byteAt targets (targetStart j + 3)) 0
-    && allBelow 8 (λ r. leb (low (claimIn targets j) r) (high (claimIn targets j) r))
     && (not (eqb (targetKind targets j) 1) || isIndirectClaim (claimIn targets j))
     && isInOrder targets j
 
+-- "No lowest exceeds its highest."
+abbrev pub isOrderedClaim : Ranges → Bool
+isOrderedClaim k = allBelow 8 (λ r. leb (low k r) (high k r))
+
+unfoldable pub isGoodTarget : ℕ → List ℕ → ℕ → Bool
+isGoodTarget n targets j = isPlacedTarget n targets j && isOrderedClaim (claimIn targets j)
+
 -- ---- the module
 
--- 6 and 7: every instruction of the code, and every target, in a module of n instructions
+-- 6 and 7: every instruction of the code, and every target, in a module of n instructions; what is asked of a target is given
 abbrev pub instructionRules : List ℕ → List Obligation
 instructionRules code = each (instructionCount code) (λ i. owes 6 i (isInstruction code i) ∷ [])
 
-abbrev pub targetRules : ℕ → List ℕ → List Obligation
-targetRules n targets = each (targetCount targets) (λ j. owes 7 j (isGoodTarget n targets j) ∷ [])
+abbrev pub targetRules : (ℕ → Bool) → List ℕ → List Obligation
+targetRules good targets = each (targetCount targets) (λ j. owes 7 j (good j) ∷ [])
 
 -- 5, 6 and 7
-abbrev pub moduleRules : Layout → List ℕ → List ℕ → List Obligation
-moduleRules l code targets =
-    owes 5 0 (isLayout l) ∷ (instructionRules code ++ targetRules (instructionCount code) targets)
+abbrev pub moduleRules : (ℕ → List ℕ → ℕ → Bool) → Layout → List ℕ → List ℕ → List Obligation
+moduleRules good l code targets =
+    owes 5 0 (isLayout l) ∷ (instructionRules code ++ targetRules (good (instructionCount code) targets) targets)
 
--- refusals 1 to 7: the three fields in order, "Then come 4, 5, 6, 7 over the whole module."
-unfoldable pub readable : List ℕ → List Obligation
-readable file =
+-- the three fields in order, "Then come 4, 5, 6, 7 over the whole module."
+unfoldable pub readableBy : (ℕ → List ℕ → ℕ → Bool) → List ℕ → List Obligation
+readableBy good file =
     field file 0 1
     ++ (field file codeStart 2
     ++ (field file (targetsAt file) 3
     ++ (owes 4 (fieldEnd file (targetsAt file)) (eqb (length file) (fieldEnd file (targetsAt file)))
-    ∷ moduleRules (layoutIn file) (codeIn file) (targetsIn file))))
+    ∷ moduleRules good (layoutIn file) (codeIn file) (targetsIn file))))
+
+-- refusals 1 to 7
+abbrev pub readable : List ℕ → List Obligation
+readable = readableBy isGoodTarget
+
+-- document 02, ticket 3: "before sweeping 1 to 6 apply, and 7 except for inner claims". (An open door's claim is in order anyway.)
+abbrev pub sweepable : List ℕ → List Obligation
+sweepable = readableBy isPlacedTarget
 
 -- the module of a layout, the code's bytes and the targets' bytes
 unfoldable pub programOf : Layout → List ℕ → List ℕ → Program

@@ -26,7 +26,7 @@ use Rattle.model.specs.Ranges.{range, anything, low, high, put, unknown,
 use Rattle.model.specs.Program.{Program, targetAt}
 use Rattle.model.specs.Instructions.{bytesOf, carried, guarded, Access, shape, traits, ruleN, afterNext, afterTaken}
 use Rattle.model.specs.Step.{inRegion, inZones, accessing, effect, addressesFrom, settle, stepOf, step}
-use Rattle.model.specs.File.{isListed, field, rows, decode, tabulate, fieldValue, readable, programOf}
+use Rattle.model.specs.File.{isListed, field, rows, decode, tabulate, fieldValue, readableBy, programOf}
 use Rattle.model.specs.Judgement.{knownAt, isReachable, isChecked, isContained, accessContained, jumpsToTarget, staysInside, takenKept, nextKept, beforeNext, atIndex, verified, obligations, firstBroken, judgement}
 use Rattle.model.specs.Run.{run, steps}
 
@@ -136,7 +136,7 @@ verdictTold (accepted n k) = 0 ∷ n ∷ k ∷ []
 verdictTold (refused f) = f .number ∷ f .place ∷ []
 
 unfoldable pub verdictOn : List ℕ → List ℕ
-unfolding judgement firstBroken obligations readable verified programOf fieldValue isListed field tabulate eachFrom firstFault readBytes
+unfolding judgement firstBroken obligations readableBy verified programOf fieldValue isListed field tabulate eachFrom firstFault readBytes
 verdictOn file = verdictTold (judgement file)
 
 abbrev pub below : Instruction

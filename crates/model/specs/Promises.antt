@@ -2,7 +2,7 @@
 -- statement is in Safety) only show that each holds, so nothing there need be read. Assumes nothing.
 use Prim.Native.Nat.{ℕ, _+_, _/_, _%_, _≤_, _<_}
 use mathlib.Core.Path.{_≡_}
-use mathlib.Core.Bool.{true}
+use mathlib.Core.Bool.{true, false}
 use mathlib.Core.Logic.{_↔_, _⊎_}
 use mathlib.Core.List.{List, [], _∷_, _++_, map, List·Memᴰ}
 use mathlib.Core.Option.{none, some}
@@ -12,15 +12,17 @@ use Rattle.model.specs.declared.Ending.the-variants.{OutOfBudget}
 use Rattle.model.specs.declared.Layout.{Layout}
 use Rattle.model.specs.declared.LoadWidth.the-variants.{SignedOne, SignedTwo}
 use Rattle.model.specs.declared.Machine.{Machine}
+use Rattle.model.specs.declared.Ranges.{Ranges}
 use Rattle.model.specs.Words.{modulus, signed, signedFrom}
 use Rattle.model.specs.Instructions.{carried}
 use Rattle.model.specs.Obligations.{Fault, fault, firstFault, FirstUnmet}
 use Rattle.model.specs.Answers.{accepted, refused, ended, rejected}
 use Rattle.model.specs.Program.{Program}
 use Rattle.model.specs.Step.{inRegion, inZones, step}
-use Rattle.model.specs.File.{codeIn, instructionCount, programIn}
+use Rattle.model.specs.File.{byteAt, codeIn, instructionCount, programIn}
 use Rattle.model.specs.Judgement.{obligations, firstBroken, judgement}
-use Rattle.model.specs.Rules.{FileKept, KeepsEveryRule, Runnable}
+use Rattle.model.specs.Claims.{begun, swept, given, sweeping, mostSweeps, codeOf, workedOut, withClaims, reclaimed, claimed, finishedFile, workOut}
+use Rattle.model.specs.Rules.{FileKept, FilePlaced, KeepsEveryRule, Runnable}
 use Rattle.model.specs.Run.{Seen, run, runnable, runOn, RunPost, seenAfter}
 use Rattle.model.specs.Walk.{Call, walk, seenIn, Called}
 use Rattle.model.specs.Safety.{Fed, InZones, InRegionOf}
@@ -28,6 +30,7 @@ use Rattle.model.specs.Outcomes as Outcomes
 use Rattle.model.specs.Outcomes.{Row, row, numbers}
 use Rattle.model.specs.Loop.{loopWith, loop, start, zeros, calling}
 use Rattle.model.specs.Walks as Walks
+use Rattle.model.specs.Worked as Worked
 use Rattle.model.specs.Line.{digit, decimal, lineOf}
 
 -- ---- demand 1: "gets the result or one of the fifteen listed refusals"
@@ -113,6 +116,8 @@ pub record KnownRequests : Type 0 where
   pub agree : (r : Row) → List·Memᴰ r Outcomes.requests → r .given ≡ r .expected
   pub complete : numbers Outcomes.requests
       ≡ 1 ∷ 1 ∷ 1 ∷ 1 ∷ 1 ∷ 1 ∷ 2 ∷ 2 ∷ 2 ∷ 2 ∷ 2 ∷ 2 ∷ 2 ∷ 2 ∷ []
+  pub worked : (r : Row) → List·Memᴰ r Worked.table → r .given ≡ r .expected
+  pub worked-complete : numbers Worked.table ≡ 3 ∷ 3 ∷ 3 ∷ 3 ∷ 3 ∷ 3 ∷ 3 ∷ 3 ∷ 3 ∷ 3 ∷ 3 ∷ []
 
 -- document 02, ticket 2: "carry the sign up through 32 bits": the signed reading of what a load carries is that of the sample, for
 -- every sample of one byte and of two; and of a word `signedFrom` is document 01's signed reading
@@ -166,3 +171,39 @@ pub record LoopWalked : Type 0 where
   -- guard, load, addi; then jump, load: r1 is one word further, and the next instruction is the addi
   pub machines : map (λ (s : Seen). s .machine) (seenIn (walk (programIn loop) start zeros (calling 3 ∷ calling 2 ∷ [])))
       ≡ record { registers = 0 ∷ 0x2000_0004 ∷ replicate 6 0; pc = 3 } ∷ record { registers = 0 ∷ 0x2000_0004 ∷ replicate 6 0; pc = 2 } ∷ []
+
+-- ---- document 02, ticket 3: claims that are worked out, for any file of bytes
+
+abbrev pub AreBytes : List ℕ → Type 0
+AreBytes file = (i : ℕ) → byteAt file i < 256
+
+-- "with none left it ends": no claim changes any more, every target is reached, and more sweeps would be none
+pub record SweepsEnd : Type 0 where
+  pub unchanged : (file : List ℕ) → AreBytes file → FilePlaced file
+      → swept (codeOf (programIn file)) (workedOut (programIn file) .entries) .changed ≡ false
+  pub none-left : (file : List ℕ) → AreBytes file → FilePlaced file → given (workedOut (programIn file) .entries) ≡ none
+  pub enough : (file : List ℕ) → AreBytes file → FilePlaced file → (most : ℕ) → mostSweeps (programIn file) ≤ most
+      → sweeping (codeOf (programIn file)) most 0 (map begun (programIn file .targets)) ≡ workedOut (programIn file)
+
+-- "The verifier then judges the finished module, and its answer is the answer."
+pub record WorkedOutJudged : Type 0 where
+  -- the file that is judged holds the module with the worked-out claims, and keeps 1 to 7
+  pub finished : (file : List ℕ) → AreBytes file → FilePlaced file
+      → FileKept (finishedFile file) × (programIn (finishedFile file) ≡ withClaims (programIn file))
+  -- what is accepted is accepted by the verifier, so that "Safety covers these modules like any others."
+  pub stands : (file : List ℕ) (n k : ℕ) → workOut file .judgement ≡ accepted n k → judgement (workOut file .bytes) ≡ accepted n k
+  -- "a refusal leaves the bytes as they came"
+  pub kept : (file : List ℕ) (f : Fault) → workOut file .judgement ≡ refused f → workOut file .bytes ≡ file
+  -- "no new number"; "11 never occurs here"
+  pub numbered : (file : List ℕ) (f : Fault) → workOut file .judgement ≡ refused f → (1 ≤ f .number) × (f .number ≤ 13)
+  pub never-11 : (file : List ℕ) → AreBytes file → (f : Fault) → workOut file .judgement ≡ refused f → f .number ≡ 11 → ⊥
+
+-- "ignores its inner doors' claims": with any others over them a file is answered as before, and what is accepted is the same file; so
+-- working out twice is working out once
+pub record InnerIgnored : Type 0 where
+  pub ignored : (file : List ℕ) → FilePlaced file → (other : ℕ → Ranges)
+      → let garbled = claimed (map (reclaimed other) (programIn file .targets)) file in
+      (workOut garbled .judgement ≡ workOut file .judgement)
+      × ((n k : ℕ) → workOut file .judgement ≡ accepted n k → workOut garbled .bytes ≡ workOut file .bytes)
+  pub twice : (file : List ℕ) (n k : ℕ) → workOut file .judgement ≡ accepted n k
+      → workOut (workOut file .bytes) ≡ workOut file

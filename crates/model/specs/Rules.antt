@@ -45,22 +45,33 @@ pub record LayoutKept (l : Layout) : Type 0 where
 abbrev pub InstructionKept : List ℕ → ℕ → Type 0
 InstructionKept code i = (x : Instruction) × (instructionIn code i ≡ some x)
 
--- 7, in a module of n instructions
-pub record TargetKept (n : ℕ) (targets : List ℕ) (j : ℕ) : Type 0 where
+-- 7 but for the order of a claim's ends, in a module of n instructions
+pub record TargetPlaced (n : ℕ) (targets : List ℕ) (j : ℕ) : Type 0 where
   pub inside : targetIndex targets j < n
   pub kind : targetKind targets j < 2
   pub zero-byte : byteAt targets (targetStart j + 3) ≡ 0
-  pub ordered : (r : ℕ) → r < 8 → low (claimIn targets j) r ≤ high (claimIn targets j) r
   pub indirect : targetKind targets j ≡ 1 → (r : ℕ) → r < 8
       → (low (claimIn targets j) r ≡ low indirectClaim r) × (high (claimIn targets j) r ≡ high indirectClaim r)
   pub first : j ≡ 0 → (targetIndex targets 0 ≡ 0) × (targetKind targets 0 ≡ 1)
   pub rising : (i : ℕ) → j ≡ suc i → targetIndex targets i < targetIndex targets (suc i)
 
--- 5, 6 and 7: the layout, every instruction of the code and every target
-pub record ModuleKept (l : Layout) (code targets : List ℕ) : Type 0 where
+-- 7
+pub record TargetKept (n : ℕ) (targets : List ℕ) (j : ℕ) : Type 0 where
+  pub placed : TargetPlaced n targets j
+  pub ordered : (r : ℕ) → r < 8 → low (claimIn targets j) r ≤ high (claimIn targets j) r
+
+-- 5 and 6, and of each target what is given: the layout, every instruction of the code and every target
+pub record ModuleHolds (Good : ℕ → List ℕ → ℕ → Type 0) (l : Layout) (code targets : List ℕ) : Type 0 where
   pub layout : LayoutKept l
   pub each-instruction : (i : ℕ) → i < instructionCount code → InstructionKept code i
-  pub each-target : (j : ℕ) → j < targetCount targets → TargetKept (instructionCount code) targets j
+  pub each-target : (j : ℕ) → j < targetCount targets → Good (instructionCount code) targets j
+
+-- 5, 6 and 7; and these but for the order of claims' ends
+abbrev pub ModuleKept : Layout → List ℕ → List ℕ → Type 0
+ModuleKept = ModuleHolds TargetKept
+
+abbrev pub ModulePlaced : Layout → List ℕ → List ℕ → Type 0
+ModulePlaced = ModuleHolds TargetPlaced
 
 -- 12: after an instruction that does not go on to the next index there is a target
 abbrev pub Reachable : Program → ℕ → Type 0
@@ -111,13 +122,21 @@ pub record IndexKept (p : Program) (i : ℕ) : Type 0 where
   pub taken : TakenKept p i
   pub next : NextKept p i
 
--- rules 1 to 7, over every field, instruction and target
-pub record FileKept (file : List ℕ) : Type 0 where
+-- rules 1 to 6, over every field and instruction, and of each target what is given
+pub record FileHolds (Good : ℕ → List ℕ → ℕ → Type 0) (file : List ℕ) : Type 0 where
   pub layout-field : FieldKept file 0 1 (λ n. n ≡ 12)
   pub code-field : FieldKept file codeStart 2 (SomeOf 8 mostInstructions)
   pub targets-field : FieldKept file (targetsAt file) 3 (SomeOf 68 mostTargets)
   pub no-tail : length file ≡ fieldEnd file (targetsAt file)
-  pub holds : ModuleKept (layoutIn file) (codeIn file) (targetsIn file)
+  pub holds : ModuleHolds Good (layoutIn file) (codeIn file) (targetsIn file)
+
+-- rules 1 to 7
+abbrev pub FileKept : List ℕ → Type 0
+FileKept = FileHolds TargetKept
+
+-- document 02, ticket 3: "before sweeping 1 to 6 apply, and 7 except for inner claims"
+abbrev pub FilePlaced : List ℕ → Type 0
+FilePlaced = FileHolds TargetPlaced
 
 -- every rule, and so over every edge too
 pub record KeepsEveryRule (file : List ℕ) : Type 0 where

@@ -1,8 +1,9 @@
-// One generated module, judged and run by both implementations.
+// One generated module, judged and run by both implementations, and then with claims that they work out.
 use super::build::front;
 use super::compare::same_run;
 use super::compare::same_verdict;
 use super::damage::damage;
+use super::garble::garble;
 use super::generate::generate;
 use super::ours;
 use super::plan;
@@ -11,6 +12,7 @@ use super::start;
 use super::start::Start;
 use super::tally::count_run;
 use super::tally::count_verdict;
+use super::work::compare;
 
 fn fill(memory: &mut [u8], seed: &mut u32) {
     let mut i = 0;
@@ -37,7 +39,7 @@ fn run(file: &[u8], s: Start, seed: &mut u32, tally: &mut [u32; 256]) {
     count_run(tally, y, alike);
 }
 
-pub(crate) fn case(seed: &mut u32, tally: &mut [u32; 256]) {
+pub(crate) fn case(seed: &mut u32, tally: &mut [u32; 256], worked: &mut [u32; 256]) {
     let plan = plan::draw(seed);
     let mut buf = [0u8; 1024];
     let whole = generate(&mut buf, plan, seed);
@@ -45,4 +47,6 @@ pub(crate) fn case(seed: &mut u32, tally: &mut [u32; 256]) {
     judge(front(&buf, length), tally);
     let from = start::draw(plan, seed);
     run(front(&buf, length), from, seed, tally);
+    garble(&mut buf, plan, *seed);
+    compare(worked, buf, length);
 }

@@ -6,6 +6,7 @@ use super::range;
 use super::sample;
 use super::score::report;
 use super::step;
+use super::worked;
 
 const RULE_B: u32 = 0;
 
@@ -43,6 +44,10 @@ const SAMPLES: u32 = 16;
 
 const WIDTHS: u32 = 17;
 
+const CLAIMS: u32 = 18;
+
+const CHAINS: u32 = 19;
+
 fn case(score: &mut [u32; 4], group: u32, i: usize) {
     match group {
         RULE_B => range::rule_b(score, i),
@@ -62,7 +67,9 @@ fn case(score: &mut [u32; 4], group: u32, i: usize) {
         ENDS => step::ends(score, i),
         OTHERS => step::others(score, i),
         SAMPLES => sample::samples(score, i),
-        _ => sample::widths(score, i),
+        WIDTHS => sample::widths(score, i),
+        CLAIMS => worked::claims(score, i),
+        _ => limit::chains(score, i),
     }
 }
 
@@ -95,4 +102,6 @@ pub(crate) fn groups() {
     group(b"jumps, tests and values", OTHERS, 26);
     group(b"signed samples", SAMPLES, 26);
     group(b"widths of loads and stores", WIDTHS, 38);
+    group(b"claims that are worked out", CLAIMS, 12);
+    group(b"claims of 256 doors", CHAINS, 2);
 }

@@ -101,7 +101,7 @@ const WRAPPED: [[u32; 5]; 8] = [
     [0, 0, 0, 0, 0],
 ];
 
-fn write_instruction(buf: &mut [u8], i: u32, row: [u32; 5]) {
+pub(crate) fn write_instruction(buf: &mut [u8], i: u32, row: [u32; 5]) {
     let x = Ins {
         op: row[0],
         a: row[1],

@@ -1,12 +1,19 @@
-// The longest fields, and one instruction or door more. A door's claim of 0 to 0 is no hindrance after a halt.
+// The longest fields, and one instruction or door more. A door's claim of 0 to 0 is no hindrance after a halt. And as
+// many doors as there may be, with claims that are worked out.
 ghost use Prim.Native.Nat.{_<_};
 use super::build::front;
 use super::build::layout;
 use super::build::put;
 use super::build::put_half;
 use super::build::wide;
+use super::compare::same_verdict;
 use super::edge::DB;
 use super::score::asked;
+use super::score::note;
+use super::work::by_ours;
+use super::work::by_theirs;
+use super::work::is_claimed;
+use reference::Judged;
 
 fn put_eighth(buf: &mut [u8], from: usize, v: u32, i: u32) {
     put(buf, from % 65536 + wide(i) % 8192 * 8, v);
@@ -73,7 +80,9 @@ fn write_doors(buf: &mut [u8], n: u32, k: u32) {
     open_door(buf, n);
 }
 
-fn end(n: u32, k: u32) -> usize {
+fn end(n: u32, k: u32) -> usize
+    ensures { λ r. ⌜ r < 1000000 ⌝ }
+{
     21 + wide(n) % 8192 * 8 + wide(k) % 512 * 68
 }
 
@@ -98,4 +107,39 @@ pub(crate) fn counts(score: &mut [u32; 4], i: usize) {
     write_code(&mut buf, n, k);
     write_doors(&mut buf, n, k);
     asked(score, front(&buf, end(n, k)), row[2], row[3], n, k);
+}
+
+// r0 is set to 5, and then every instruction but the last is a check: each passes what is known on to the next, and the
+// first 256 are doors.
+fn write_chain(buf: &mut [u8], n: u32) {
+    write_code(buf, n, 1);
+    put(buf, 18, 1);
+    put(buf, 22, 5);
+    write_doors(buf, n, 256);
+}
+
+// How many instructions.
+const CHAINS: [u32; 2] = [256, 4096];
+
+// Both leave the same bytes, and the last door claims that r0 is 5.
+pub(crate) fn chains(score: &mut [u32; 4], i: usize) {
+    let n = CHAINS[i % 2];
+    let length = end(n, 256);
+    let mut left = [0u8; 50400];
+    write_chain(&mut left, n);
+    let mut right = left;
+    let x = by_ours(&mut left, length);
+    let y = by_theirs(&mut right, length);
+    let answer = Judged {
+        accepted: true,
+        first: n,
+        second: 256,
+    };
+    let five = [5u8, 0, 0, 0, 5, 0, 0, 0];
+    let alike = check::same(&left, &right) && is_claimed(&left, end(n, 255) + 4, &five);
+    note(
+        score,
+        alike && same_verdict(x, answer),
+        alike && same_verdict(y, answer),
+    );
 }

@@ -1,4 +1,5 @@
-// The implementation that is held to the reference: the proved verifier and machine, with their answers in the reference's form.
+// The implementation that is held to the reference: the proved verifier and machine, and the part that works out
+// claims, with their answers in the reference's form.
 use model::Completion;
 use model::Machine;
 use model::Outcome;
@@ -6,8 +7,7 @@ use model::Verdict;
 use reference::Judged;
 use reference::Ran;
 
-pub(crate) fn verify(file: &[u8]) -> Judged {
-    let verdict = verifier::verify::verify(file);
+fn judged(verdict: Verdict) -> Judged {
     match verdict {
         Verdict::Accepted {
             instructions,
@@ -26,6 +26,14 @@ pub(crate) fn verify(file: &[u8]) -> Judged {
             }
         }
     }
+}
+
+pub(crate) fn verify(file: &[u8]) -> Judged {
+    judged(verifier::verify::verify(file))
+}
+
+pub(crate) fn work_out(file: &mut [u8]) -> Judged {
+    judged(claims::work_out::work_out(file))
 }
 
 fn told(outcome: Outcome) -> Ran {

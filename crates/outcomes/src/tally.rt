@@ -20,6 +20,19 @@ const RAN: usize = 194;
 
 const RAN_ALIKE: usize = 195;
 
+// Of files whose claims are worked out, which have a tally of their own: those that were accepted, that verify accepts
+// after it, and that are the same when they are worked out again; those that were refused with their bytes as they came;
+// and loops by what they claim of r0.
+pub const VERIFIED: usize = 196;
+
+pub const SAME_AGAIN: usize = 197;
+
+pub const KEPT: usize = 198;
+
+pub const WIDENED: usize = 199;
+
+pub const NARROW: usize = 200;
+
 pub(crate) fn count(tally: &mut [u32; 256], slot: usize) {
     let i = slot % 256;
     tally[i] = std::num::wrapping_add_u32(tally[i], 1);
@@ -111,4 +124,22 @@ pub(crate) fn report(tally: &[u32; 256]) {
     refusals(tally, b"refused ", VERDICTS);
     refusals(tally, b"run refused ", REFUSED_RUNS);
     endings(tally);
+}
+
+pub(crate) fn report_worked(worked: &[u32; 256]) {
+    agreement(
+        b"claims worked out alike ",
+        entry(worked, JUDGED_ALIKE),
+        entry(worked, JUDGED),
+    );
+    line(b"worked out and accepted", entry(worked, VERDICTS));
+    line(b"then verified", entry(worked, VERIFIED));
+    line(b"the same when worked out again", entry(worked, SAME_AGAIN));
+    refusals(worked, b"worked out and refused ", VERDICTS);
+    line(b"refused with the bytes as they came", entry(worked, KEPT));
+    line(
+        b"loops whose r0 is widened to anything",
+        entry(worked, WIDENED),
+    );
+    line(b"loops whose r0 keeps a range", entry(worked, NARROW));
 }

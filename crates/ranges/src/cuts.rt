@@ -13,7 +13,7 @@ ghost use lib.IntN.{subℕ};
 ghost use Rattle.model.specs.Words.{modulus};
 ghost use Rattle.model.specs.Ranges.{common, isEmpty, cut, between, cutBoth, cutFor, ruleB};
 
-fn larger(x: u32, y: u32) -> u32
+pub(crate) fn larger(x: u32, y: u32) -> u32
     ensures { λ r. ⌜ r ≡ max x y ⌝ }
 {
     if x < y { y } else { x }

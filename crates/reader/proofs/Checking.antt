@@ -13,7 +13,7 @@ use Rattle.model.specs.declared.Layout.{Layout}
 use Rattle.model.specs.declared.Refusal.{Refusal}
 use Rattle.model.specs.Answers.{faultOf}
 use Rattle.model.specs.Obligations.{Fault, fault, owes, firstFault, eachFrom, each}
-use Rattle.model.specs.File.{fieldEnd, field, codeStart, targetsAt, codeIn, targetsIn, instructionCount, targetCount, layoutIn, instructionIn, isInstruction, isLayout, instructionRules, targetRules, moduleRules, readable}
+use Rattle.model.specs.File.{fieldEnd, field, codeStart, targetsAt, codeIn, targetsIn, instructionCount, targetCount, layoutIn, instructionIn, isInstruction, isLayout, instructionRules, targetRules, moduleRules, readableBy}
 use Rattle.model.proofs.Faults.{head-met, head-unmet, one-met, append-faultless, append-faulty, index-faultless, index-faulty, indexes-done, indexes-start}
 use Rattle.reader.specs.declared.decode.Decoded.{Decoded}
 use Rattle.reader.specs.declared.decode.Decoded.the-variants.{Is, Not}
@@ -21,7 +21,7 @@ use Rattle.reader.specs.declared.finding.Finding.{Finding}
 use Rattle.reader.specs.declared.finding.Finding.the-variants.{Met, Unmet}
 use Rattle.reader.specs.Decoding.{instructionOf}
 use Rattle.reader.specs.Findings.{faultIn}
-use Rattle.reader.specs.Readings.{FieldsStand, holds, refused, reading}
+use Rattle.reader.specs.Readings.{FieldsStand, asked, holds, refused, readingBy}
 
 -- the first fault where every index below n owes a test by a rule
 abbrev pub faultBelow : ℕ → (ℕ → Bool) → ℕ → Option Fault
@@ -65,73 +65,73 @@ module _ {r : Finding} {named : Option Fault} (is : faultIn r ≡ named) where
   unmet-names x unmet = sym (rw unmet at is)
 
 -- 5, 6 and 7, one after another
-module _ (l : Layout) (code targets : List ℕ) where
-  pub layout-refused : isLayout l ≡ false → some (fault 5 0) ≡ firstFault (moduleRules l code targets)
+module _ (claims : Bool) (l : Layout) (code targets : List ℕ) where
+  pub layout-refused : isLayout l ≡ false → some (fault 5 0) ≡ firstFault (moduleRules (asked claims) l code targets)
   layout-refused failed = sym (head-unmet _ _ failed)
 
   module _ (passed : isLayout l ≡ true) where
-    pub instruction-refused : (f : Fault) → firstFault (instructionRules code) ≡ some f → some f ≡ firstFault (moduleRules l code targets)
+    pub instruction-refused : (f : Fault) → firstFault (instructionRules code) ≡ some f → some f ≡ firstFault (moduleRules (asked claims) l code targets)
     instruction-refused f named = sym (head-met _ _ passed ∙ append-faulty _ _ f named)
 
     pub targets-left : firstFault (instructionRules code) ≡ none
-        → firstFault (targetRules (instructionCount code) targets) ≡ firstFault (moduleRules l code targets)
+        → firstFault (targetRules (asked claims (instructionCount code) targets) targets) ≡ firstFault (moduleRules (asked claims) l code targets)
     targets-left none-named = sym (head-met _ _ passed ∙ append-faultless _ _ none-named)
 
 -- the whole file
-module _ (file : List ℕ) where
-  refused-reads : (f : Fault) → firstFault (readable file) ≡ some f → refused f ≡ reading file
-  unfolding reading
+module _ (claims : Bool) (file : List ℕ) where
+  refused-reads : (f : Fault) → firstFault (readableBy (asked claims) file) ≡ some f → refused f ≡ readingBy claims file
+  unfolding readingBy
   refused-reads f named = rw named
 
   -- the three fields, one after another
   module _ (f : Fault) where
-    pub first-refused : firstFault (field file 0 1) ≡ some f → refused f ≡ reading file
-    unfolding readable
+    pub first-refused : firstFault (field file 0 1) ≡ some f → refused f ≡ readingBy claims file
+    unfolding readableBy
     first-refused named = refused-reads f (append-faulty _ _ f named)
 
     module _ (first : firstFault (field file 0 1) ≡ none) where
-      pub second-refused : firstFault (field file codeStart 2) ≡ some f → refused f ≡ reading file
-      unfolding readable
+      pub second-refused : firstFault (field file codeStart 2) ≡ some f → refused f ≡ readingBy claims file
+      unfolding readableBy
       second-refused named = refused-reads f (append-faultless _ _ first ∙ append-faulty _ _ f named)
 
       pub third-refused : firstFault (field file codeStart 2) ≡ none → firstFault (field file (targetsAt file) 3) ≡ some f
-          → refused f ≡ reading file
-      unfolding readable
+          → refused f ≡ readingBy claims file
+      unfolding readableBy
       third-refused second named =
           refused-reads f (append-faultless _ _ first ∙ append-faultless _ _ second ∙ append-faulty _ _ f named)
 
   -- behind them 4, at the end of the third, and then the module
   module _ (stand : FieldsStand file) {end : ℕ} (is-end : end ≡ fieldEnd file (targetsAt file)) where
-    behind-fields : firstFault (readable file)
+    behind-fields : firstFault (readableBy (asked claims) file)
         ≡ firstFault (owes 4 (fieldEnd file (targetsAt file)) (eqb (length file) (fieldEnd file (targetsAt file)))
-        ∷ moduleRules (layoutIn file) (codeIn file) (targetsIn file))
-    unfolding readable
+        ∷ moduleRules (asked claims) (layoutIn file) (codeIn file) (targetsIn file))
+    unfolding readableBy
     behind-fields =
         append-faultless _ _ (stand .layout-field) ∙ append-faultless _ _ (stand .code-field) ∙ append-faultless _ _ (stand .targets-field)
 
-    pub bytes-left : (length file ≡ end → ⊥) → refused (fault 4 end) ≡ reading file
+    pub bytes-left : (length file ≡ end → ⊥) → refused (fault 4 end) ≡ readingBy claims file
     bytes-left longer =
         rw is-end (refused-reads _ (behind-fields ∙ head-unmet _ _ (ne-eqb _ _ (λ e. longer (e ∙ sym is-end)))))
 
     pub only-module : length file ≡ end
-        → firstFault (readable file) ≡ firstFault (moduleRules (layoutIn file) (codeIn file) (targetsIn file))
+        → firstFault (readableBy (asked claims) file) ≡ firstFault (moduleRules (asked claims) (layoutIn file) (codeIn file) (targetsIn file))
     only-module ends = behind-fields ∙ head-met _ _ (eq-eqb _ _ (ends ∙ is-end))
 
 -- the module judged: its three parts, and what was found of them, which is all that is left
-pub record Judged (file : List ℕ) (l : Layout) (code targets : List ℕ) (r : Finding) : Type 0 where
+pub record Judged (claims : Bool) (file : List ℕ) (l : Layout) (code targets : List ℕ) (r : Finding) : Type 0 where
   pub is-layout : l ≡ layoutIn file
   pub is-code : code ≡ codeIn file
   pub is-targets : targets ≡ targetsIn file
-  pub found : faultIn r ≡ firstFault (moduleRules l code targets)
-  pub left : firstFault (readable file) ≡ firstFault (moduleRules (layoutIn file) (codeIn file) (targetsIn file))
+  pub found : faultIn r ≡ firstFault (moduleRules (asked claims) l code targets)
+  pub left : firstFault (readableBy (asked claims) file) ≡ firstFault (moduleRules (asked claims) (layoutIn file) (codeIn file) (targetsIn file))
 
-module _ {file : List ℕ} {l : Layout} {code targets : List ℕ} {r : Finding} (judged : Judged file l code targets r) where
-  named : faultIn r ≡ firstFault (readable file)
+module _ {claims : Bool} {file : List ℕ} {l : Layout} {code targets : List ℕ} {r : Finding} (judged : Judged claims file l code targets r) where
+  named : faultIn r ≡ firstFault (readableBy (asked claims) file)
   named = judged .found ∙ rw (judged .is-layout, judged .is-code, judged .is-targets) (sym (judged .left))
 
-  pub judged-refused : (x : Refusal) → r ≡ Unmet x → refused (faultOf x) ≡ reading file
-  judged-refused x unmet = refused-reads file _ (unmet-names named x unmet)
+  pub judged-refused : (x : Refusal) → r ≡ Unmet x → refused (faultOf x) ≡ readingBy claims file
+  judged-refused x unmet = refused-reads claims file _ (unmet-names named x unmet)
 
-  pub judged-holds : r ≡ Met → holds l (instructionCount code) (targetCount targets) ≡ reading file
-  unfolding reading
+  pub judged-holds : r ≡ Met → holds l (instructionCount code) (targetCount targets) ≡ readingBy claims file
+  unfolding readingBy
   judged-holds met = rw (met-names named met, judged .is-layout, judged .is-code, judged .is-targets)

@@ -13,7 +13,7 @@ use Rattle.model.specs.declared.Layout.{Layout}
 use Rattle.model.specs.declared.Target.{Target}
 use Rattle.model.specs.Program.{targetAt}
 use Rattle.model.specs.File.{tabulate, targetCount, targetIndex, targetIn, programOf}
-use Rattle.model.specs.Rules.{ModuleKept}
+use Rattle.model.specs.Rules.{ModulePlaced}
 use Rattle.reader.specs.declared.lookup.Lookup.{Lookup}
 use Rattle.reader.specs.Lookups.{Rising, Finds, targetFound}
 use Rattle.reader.specs.Readings.{Loaded}
@@ -64,7 +64,7 @@ module _ (targets : List ℕ) (count to : ℕ) where
   none-there other = table-misses (targetIn targets) to 0 count (λ i least most. other i (omega arith))
 
 -- rule 7 has indexes rise
-kept-rises : {l : Layout} {code targets : List ℕ} → ModuleKept l code targets → Rising targets (targetCount targets)
+kept-rises : {l : Layout} {code targets : List ℕ} → ModulePlaced l code targets → Rising targets (targetCount targets)
 kept-rises kept i zero before below = absurd (omega arith)
 kept-rises {targets = targets} kept i (suc j) before below =
     let next : targetIndex targets j < targetIndex targets (suc j) = kept .each-target (suc j) below .rising j refl in

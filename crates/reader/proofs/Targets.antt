@@ -1,26 +1,18 @@
 -- Targets: what is read at a target's start is what the definitions read, and each test of the code is one of the definition's.
 -- Assumes nothing.
 use Prim.Native.Nat.{ℕ, zero, suc, _+_, _-_, _*_, _≤_, _<_}
-use mathlib.Core.Path.{_≡_, refl, sym, ap, _∙_}
-use mathlib.Core.Bool.{Bool, true, false, not, _&&_, _||_}
-use mathlib.Core.List.{List, [], _∷_}
+use mathlib.Core.Path.{_≡_, refl, sym, _∙_}
+use mathlib.Core.Bool.{Bool, true, false, not, _&&_, _||_, true≢false}
+use mathlib.Core.List.{List}
 use native.Mathlib.Omega.{arith}
 use borrow.Author.Tests.{lt-ltb, le-ltb, eq-eqb, ne-eqb}
 use lib.Dec.{leb, ltb, eqb}
 use lib.ListN.{getD, getD-replicate}
-use Rattle.model.specs.declared.Ranges.{Ranges}
-use Rattle.model.specs.Quantifiers.{allBelow}
 use Rattle.model.specs.Ranges.{low, high}
 use Rattle.model.specs.Words.{top, readBytes}
-use Rattle.model.specs.File.{tabulate, targetStart, targetIndex, targetKind, claimIn, indirectClaim, isIndirectClaim, isInOrder, isGoodTarget}
+use Rattle.model.specs.File.{tabulate, targetStart, targetIndex, targetKind, claimIn, indirectClaim, isIndirectClaim, isInOrder, isPlacedTarget, isOrderedClaim, isGoodTarget}
 use Rattle.model.proofs.Reflection.{eq-reflects, implies-reflects}
-
--- a table of eight, entry by entry
-pub eight-entries : (f : ℕ → ℕ) {a b c d e g h i : ℕ}
-    → a ≡ f 0 → b ≡ f 1 → c ≡ f 2 → d ≡ f 3 → e ≡ f 4 → g ≡ f 5 → h ≡ f 6 → i ≡ f 7
-    → a ∷ b ∷ c ∷ d ∷ e ∷ g ∷ h ∷ i ∷ [] ≡ tabulate 0 8 f
-unfolding tabulate
-eight-entries f at0 at1 at2 at3 at4 at5 at6 at7 = rw (at0, at1, at2, at3, at4, at5, at6, at7)
+use Rattle.reader.specs.Readings.{asked}
 
 -- the claim is read where the target begins
 pub claim-is : (targets : List ℕ) (j start : ℕ) (lows highs : List ℕ) → start ≡ targetStart j
@@ -70,52 +62,60 @@ module _ (targets : List ℕ) (j : ℕ) where
       by-number (suc i) positive = let less : suc i - 1 ≡ i = omega arith in rw less
 
 -- what the code reads before it tests a target
-pub record Parts (targets : List ℕ) (j kind index : ℕ) (claim : Ranges) : Type 0 where
+pub record Parts (targets : List ℕ) (j kind index : ℕ) : Type 0 where
   pub is-kind : kind ≡ targetKind targets j
   pub is-index : index ≡ targetIndex targets j
-  pub is-claim : claim ≡ claimIn targets j
 
 -- the tests of a target, one after the other
-module _ (n : ℕ) {targets : List ℕ} {j kind index : ℕ} {claim : Ranges} (parts : Parts targets j kind index claim) where
-  pub outside : n ≤ index → false ≡ isGoodTarget n targets j
-  unfolding isGoodTarget
+module _ (n : ℕ) {targets : List ℕ} {j kind index : ℕ} (parts : Parts targets j kind index) where
+  pub outside : n ≤ index → false ≡ isPlacedTarget n targets j
+  unfolding isPlacedTarget
   outside past = sym (rw (le-ltb (targetIndex targets j) n (omega arith)))
 
   module _ (inside : index < n) where
     index-passes : ltb (targetIndex targets j) n ≡ true
     index-passes = lt-ltb (targetIndex targets j) n (omega arith)
 
-    pub unknown-kind : 2 ≤ kind → false ≡ isGoodTarget n targets j
-    unfolding isGoodTarget
+    pub unknown-kind : 2 ≤ kind → false ≡ isPlacedTarget n targets j
+    unfolding isPlacedTarget
     unknown-kind above = sym (rw (index-passes, le-ltb (targetKind targets j) 2 (omega arith)))
 
     module _ (known : kind < 2) {byte : ℕ} (is-byte : byte ≡ getD targets (targetStart j + 3) 0) where
       kind-passes : ltb (targetKind targets j) 2 ≡ true
       kind-passes = lt-ltb (targetKind targets j) 2 (omega arith)
 
-      pub used-byte : (byte ≡ 0 → ⊥) → false ≡ isGoodTarget n targets j
-      unfolding isGoodTarget
+      pub used-byte : (byte ≡ 0 → ⊥) → false ≡ isPlacedTarget n targets j
+      unfolding isPlacedTarget
       used-byte used =
           sym (rw (index-passes, kind-passes, ne-eqb (getD targets (targetStart j + 3) 0) 0 (λ e. used (is-byte ∙ e))))
 
-      module _ (unused : byte ≡ 0) {ordered : Bool} (is-ordered : ordered ≡ allBelow 8 (λ r. leb (low claim r) (high claim r))) where
+      module _ (unused : byte ≡ 0) where
         byte-passes : eqb (getD targets (targetStart j + 3) 0) 0 ≡ true
         byte-passes = eq-eqb _ _ (sym is-byte ∙ unused)
 
-        order-tested : allBelow 8 (λ r. leb (low (claimIn targets j) r) (high (claimIn targets j) r)) ≡ ordered
-        order-tested = sym (is-ordered ∙ ap (λ (k : Ranges). allBelow 8 (λ r. leb (low k r) (high k r))) (parts .is-claim))
+        last-tests : isPlacedTarget n targets j ≡ ((not (eqb kind 1) || isIndirectClaim (claimIn targets j)) && isInOrder targets j)
+        unfolding isPlacedTarget
+        last-tests = rw (index-passes, kind-passes, byte-passes, parts .is-kind)
 
-        pub unordered : ordered ≡ false → false ≡ isGoodTarget n targets j
-        unfolding isGoodTarget
-        unordered failed = sym (rw (index-passes, kind-passes, byte-passes, order-tested ∙ failed))
+        pub narrow-claim : kind ≡ 1 → isIndirectClaim (claimIn targets j) ≡ false → false ≡ isPlacedTarget n targets j
+        narrow-claim indirect narrow = sym (last-tests ∙ rw (eq-eqb kind 1 indirect, narrow))
 
-        module _ (passed : ordered ≡ true) where
-          last-tests : isGoodTarget n targets j ≡ ((not (eqb kind 1) || isIndirectClaim claim) && isInOrder targets j)
-          unfolding isGoodTarget
-          last-tests = rw (index-passes, kind-passes, byte-passes, order-tested ∙ passed, parts .is-kind, parts .is-claim)
+        pub only-order : (kind ≡ 1 → isIndirectClaim (claimIn targets j) ≡ true) → isInOrder targets j ≡ isPlacedTarget n targets j
+        only-order wide = sym (last-tests ∙ rw (implies-reflects (eq-reflects kind 1) (λ e. e, λ e. e) .1 wide))
 
-          pub narrow-claim : kind ≡ 1 → isIndirectClaim claim ≡ false → false ≡ isGoodTarget n targets j
-          narrow-claim indirect narrow = sym (last-tests ∙ rw (eq-eqb kind 1 indirect, narrow))
+-- all of rule 7, or all but the order of the claim's ends
+module _ (n : ℕ) (targets : List ℕ) (j : ℕ) where
+  pub misplaced : (claims : Bool) → isPlacedTarget n targets j ≡ false → false ≡ asked claims n targets j
+  unfolding isGoodTarget
+  misplaced true failed = sym (rw failed)
+  misplaced false failed = sym failed
 
-          pub only-order : (kind ≡ 1 → isIndirectClaim claim ≡ true) → isInOrder targets j ≡ isGoodTarget n targets j
-          only-order wide = sym (last-tests ∙ rw (implies-reflects (eq-reflects kind 1) (λ e. e, λ e. e) .1 wide))
+  module _ (placed : isPlacedTarget n targets j ≡ true) where
+    pub by-claim : (claims : Bool) → claims ≡ true → isOrderedClaim (claimIn targets j) ≡ asked claims n targets j
+    unfolding isGoodTarget
+    by-claim true counts = sym (rw placed)
+    by-claim false counts = absurd (true≢false (sym counts))
+
+    pub claim-ignored : (claims : Bool) → claims ≡ false → true ≡ asked claims n targets j
+    claim-ignored true ignored = absurd (true≢false ignored)
+    claim-ignored false ignored = sym placed

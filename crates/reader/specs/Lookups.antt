@@ -22,3 +22,8 @@ Rising targets count = (i j : ℕ) → i < j → j < count → targetIndex targe
 pub record Finds (targets : List ℕ) (count to : ℕ) (found : Lookup) : Type 0 where
   pub here : (j : ℕ) → found ≡ At j → (j < count) × (targetIndex targets j ≡ to)
   pub rising : Rising targets count → targetFound targets found ≡ targetAt (tabulate 0 count (targetIn targets)) to
+
+-- the same where an index is named or not
+abbrev pub FindsNamed : List ℕ → ℕ → Option ℕ → Lookup → Type 0
+FindsNamed targets count none found = found ≡ Nowhere
+FindsNamed targets count (some to) found = Finds targets count to found

@@ -1,14 +1,15 @@
 -- What the reader answers of a whole file, in the model's terms, and what machine and verifier go on with. Assumes nothing.
 use Prim.Native.Nat.{ℕ, _*_, _≤_}
 use mathlib.Core.Path.{_≡_}
+use mathlib.Core.Bool.{Bool, true, false}
 use mathlib.Core.List.{List}
 use mathlib.Core.Option.{Option, none, some}
 use lib.ListN.{length}
 use Rattle.model.specs.declared.Layout.{Layout}
 use Rattle.model.specs.Obligations.{Fault, firstFault}
 use Rattle.model.specs.Answers.{faultOf}
-use Rattle.model.specs.File.{mostInstructions, mostTargets, field, codeStart, targetsAt, codeIn, targetsIn, instructionCount, targetCount, layoutIn, readable}
-use Rattle.model.specs.Rules.{ModuleKept}
+use Rattle.model.specs.File.{mostInstructions, mostTargets, field, codeStart, targetsAt, codeIn, targetsIn, instructionCount, targetCount, layoutIn, isPlacedTarget, isGoodTarget, readableBy}
+use Rattle.model.specs.Rules.{ModulePlaced}
 use Rattle.reader.specs.declared.read.Parsed.{Parsed}
 use Rattle.reader.specs.declared.read.Parsed.the-variants as Parseds
 
@@ -27,17 +28,25 @@ abbrev pub readReport : List ℕ → Option Fault → ReadReport
 readReport file none = holds (layoutIn file) (instructionCount (codeIn file)) (targetCount (targetsIn file))
 readReport file (some f) = refused f
 
-unfoldable pub reading : List ℕ → ReadReport
-reading file = readReport file (firstFault (readable file))
+-- what is asked of a target: all of rule 7, or all but the order of claims' ends
+abbrev pub asked : Bool → ℕ → List ℕ → ℕ → Bool
+asked true = isGoodTarget
+asked false = isPlacedTarget
+
+unfoldable pub readingBy : Bool → List ℕ → ReadReport
+readingBy claims file = readReport file (firstFault (readableBy (asked claims) file))
+
+abbrev pub reading : List ℕ → ReadReport
+reading = readingBy true
 
 unfoldable pub readingOf : Parsed → ReadReport
 readingOf (Parseds.Module r) = holds (r .layout) (r .instructions) (r .targets)
 readingOf (Parseds.Refused r) = refused (faultOf r)
 
--- what machine and verifier go on with: a layout, n instructions and k targets that keep rules 5 to 7, as the stretches of a file that
--- keeps rules 1 to 7 are
+-- what machine and verifier go on with: a layout, n instructions and k targets that keep rules 5 to 7 but for the order of claims'
+-- ends, as the stretches of a file are that is read, claims ignored or not
 pub record Loaded (l : Layout) (code targets : List ℕ) (n k : ℕ) : Type 0 where
-  pub kept : ModuleKept l code targets
+  pub kept : ModulePlaced l code targets
   pub code-whole : length code ≡ 8 * n
   pub targets-whole : length targets ≡ 68 * k
   pub n-some : 1 ≤ n

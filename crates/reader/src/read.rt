@@ -10,12 +10,13 @@ use model::Layout;
 use model::Refusal;
 use model::Rule;
 ghost use mathlib.Core.Path.{_≡_};
+ghost use mathlib.Core.Bool.{false};
 ghost use Rattle.model.specs.Answers.{ruleNumber};
 ghost use Rattle.model.specs.Obligations.{fault, firstFault};
 ghost use Rattle.model.specs.File.{codeStart, targetsAt, instructionCount, targetCount, instructionRules, targetRules, moduleRules};
 ghost use Rattle.reader.specs.Fields.{ValuePart};
 ghost use Rattle.reader.specs.Findings.{faultIn};
-ghost use Rattle.reader.specs.Readings.{FieldsStand, readingOf, reading, refused};
+ghost use Rattle.reader.specs.Readings.{FieldsStand, asked, readingOf, readingBy, reading, refused};
 
 // The tags of the three fields, and the offsets of the first two.
 const LAYOUT_TAG: u8 = 1;
@@ -70,14 +71,14 @@ fn check_instructions(code: &[u8], n: u32) -> Finding
     Finding::Met
 }
 
-// 7: every target is good, in a module of n instructions.
-fn check_targets(n: u32, targets: &[u8], k: u32) -> Finding
+// 7: every target is good, in a module of n instructions; where claims are ignored, but for the order of their ends.
+fn check_targets(n: u32, targets: &[u8], k: u32, claims: bool) -> Finding
     requires { ⌜ k ≡ targetCount (now targets) ⌝ }
-    ensures { λ r. ⌜ faultIn r ≡ firstFault (targetRules n (now (targets .entry))) ⌝ }
+    ensures { λ r. ⌜ faultIn r ≡ firstFault (targetRules (asked claims n (now (targets .entry))) (now (targets .entry))) ⌝ }
 {
     let mut j = 0;
     while j < k {
-        if !target::is_good_target(n, targets, j) {
+        if !target::is_good_target(n, targets, j, claims) {
             return finding::unmet(Rule::BadTarget, j);
         }
         j += 1;
@@ -86,16 +87,23 @@ fn check_targets(n: u32, targets: &[u8], k: u32) -> Finding
 }
 
 // 5, 6, 7.
-fn check_module(layout: Layout, code: &[u8], n: u32, targets: &[u8], k: u32) -> Finding
+fn check_module(
+    layout: Layout,
+    code: &[u8],
+    n: u32,
+    targets: &[u8],
+    k: u32,
+    claims: bool,
+) -> Finding
     requires { ⌜ (n ≡ instructionCount (now code)) × (k ≡ targetCount (now targets)) ⌝ }
-    ensures { λ r. ⌜ faultIn r ≡ firstFault (moduleRules layout (now (code .entry)) (now (targets .entry))) ⌝ }
+    ensures { λ r. ⌜ faultIn r ≡ firstFault (moduleRules (asked claims) layout (now (code .entry)) (now (targets .entry))) ⌝ }
 {
     if !layout::is_layout(layout) {
         return finding::unmet(Rule::BadLayout, 0);
     }
     let instructions = check_instructions(code, n);
     match instructions {
-        Finding::Met => check_targets(n, targets, k),
+        Finding::Met => check_targets(n, targets, k, claims),
         Finding::Unmet { refusal } => Finding::Unmet { refusal },
     }
 }
@@ -109,9 +117,9 @@ fn refusal_of(rule: Rule, place: u32) -> Parsed
 }
 
 // The three fields stand: 4, then the module.
-fn read_module(file: &[u8]) -> Parsed
+fn read_module(file: &[u8], claims: bool) -> Parsed
     requires { ⌜ FieldsStand (now file) ⌝ }
-    ensures { λ r. ⌜ readingOf r ≡ reading (now (file .entry)) ⌝ }
+    ensures { λ r. ⌜ readingOf r ≡ readingBy claims (now (file .entry)) ⌝ }
 {
     let end = field::field_end(file, field::field_end(file, CODE_AT));
     if file.len() != (end as usize) {
@@ -122,7 +130,7 @@ fn read_module(file: &[u8]) -> Parsed
     let targets = targets_in(file);
     let n = (code.len() / decode::INSTRUCTION) as u32;
     let k = (targets.len() / target::TARGET) as u32;
-    let checked = check_module(layout, code, n, targets, k);
+    let checked = check_module(layout, code, n, targets, k, claims);
     match checked {
         Finding::Met => Parsed::Module {
             reading: Reading {
@@ -135,9 +143,9 @@ fn read_module(file: &[u8]) -> Parsed
     }
 }
 
-// A module's bytes: what they hold, or the first of refusals 1 to 7.
-pub fn read(file: &[u8]) -> Parsed
-    ensures { λ r. ⌜ readingOf r ≡ reading (now (file .entry)) ⌝ }
+// The three fields, then the module.
+fn read_fields(file: &[u8], claims: bool) -> Parsed
+    ensures { λ r. ⌜ readingOf r ≡ readingBy claims (now (file .entry)) ⌝ }
 {
     let first = field::check_field(file, LAYOUT_AT, LAYOUT_TAG);
     if let Finding::Unmet { refusal } = first {
@@ -151,5 +159,19 @@ pub fn read(file: &[u8]) -> Parsed
     if let Finding::Unmet { refusal } = third {
         return Parsed::Refused { refusal };
     }
-    read_module(file)
+    read_module(file, claims)
+}
+
+// A module's bytes: what they hold, or the first of refusals 1 to 7.
+pub fn read(file: &[u8]) -> Parsed
+    ensures { λ r. ⌜ readingOf r ≡ reading (now (file .entry)) ⌝ }
+{
+    read_fields(file, true)
+}
+
+// The same, claims ignored: 7 but for the order of their ends.
+pub fn read_but_claims(file: &[u8]) -> Parsed
+    ensures { λ r. ⌜ readingOf r ≡ readingBy false (now (file .entry)) ⌝ }
+{
+    read_fields(file, false)
 }

@@ -2,12 +2,11 @@
 use model::Ranges;
 ghost use mathlib.Core.Path.{_≡_};
 ghost use Prim.Native.Nat.{_+_, _*_, _<_};
-ghost use lib.Dec.{leb};
+ghost use lib.Dec.{eqb};
 ghost use lib.ListN.{getD};
-ghost use Rattle.model.specs.Quantifiers.{allBelow};
-ghost use Rattle.model.specs.Ranges.{low, high};
 ghost use Rattle.model.specs.Words.{readBytes};
-ghost use Rattle.model.specs.File.{targetStart, targetIndex, targetKind, claimIn, isIndirectClaim, isInOrder, isGoodTarget};
+ghost use Rattle.model.specs.File.{targetStart, targetIndex, targetKind, claimIn, isIndirectClaim, isInOrder, isPlacedTarget, isOrderedClaim};
+ghost use Rattle.reader.specs.Readings.{asked};
 
 // The bytes of a target.
 pub const TARGET: usize = 68;
@@ -16,7 +15,7 @@ pub const TARGET: usize = 68;
 pub const INDIRECT: u8 = 1;
 
 // Where the target of a number begins.
-fn target_start(j: u32) -> usize
+pub fn target_start(j: u32) -> usize
     ensures { λ r. ⌜ (r ≡ targetStart j) × (r < 0x80_0000_0000) ⌝ }
 {
     TARGET * (j as usize)
@@ -32,6 +31,13 @@ pub fn kind_of(targets: &[u8], j: u32) -> u8
     ensures { λ r. ⌜ r ≡ targetKind (now (targets .entry)) j ⌝ }
 {
     words::bytes::byte_at(targets, target_start(j) + 2)
+}
+
+// The target of a number is indirect.
+pub fn is_indirect(targets: &[u8], j: u32) -> bool
+    ensures { λ r. ⌜ r ≡ eqb (targetKind (now (targets .entry)) j) 1 ⌝ }
+{
+    kind_of(targets, j) == INDIRECT
 }
 
 // The byte behind the kind, which is zero in a good target.
@@ -87,7 +93,7 @@ pub fn claim_in(targets: &[u8], j: u32) -> Ranges
 
 // "No lowest exceeds its highest."
 fn is_ordered(claim: Ranges) -> bool
-    ensures { λ x. ⌜ x ≡ allBelow 8 (λ r. leb (low claim r) (high claim r)) ⌝ }
+    ensures { λ x. ⌜ x ≡ isOrderedClaim claim ⌝ }
 {
     let lows = claim.lows;
     let highs = claim.highs;
@@ -133,12 +139,11 @@ fn is_in_order(targets: &[u8], j: u32) -> bool
     index_of(targets, j - 1) < index_of(targets, j)
 }
 
-// The rules of a target, in a module of n instructions.
-pub fn is_good_target(n: u32, targets: &[u8], j: u32) -> bool
-    ensures { λ x. ⌜ x ≡ isGoodTarget n (now (targets .entry)) j ⌝ }
+// The rules of a target, in a module of n instructions, but for the order of its claim's ends.
+pub fn is_placed_target(n: u32, targets: &[u8], j: u32) -> bool
+    ensures { λ x. ⌜ x ≡ isPlacedTarget n (now (targets .entry)) j ⌝ }
 {
     let kind = kind_of(targets, j);
-    let claim = claim_in(targets, j);
     if n <= (index_of(targets, j) as u32) {
         return false;
     }
@@ -148,13 +153,23 @@ pub fn is_good_target(n: u32, targets: &[u8], j: u32) -> bool
     if zero_byte(targets, j) != 0 {
         return false;
     }
-    if !is_ordered(claim) {
-        return false;
-    }
     if kind == INDIRECT {
-        if !is_indirect_claim(claim) {
+        if !is_indirect_claim(claim_in(targets, j)) {
             return false;
         }
     }
     is_in_order(targets, j)
+}
+
+// The rules of a target; where claims are ignored, but for the order of their ends.
+pub fn is_good_target(n: u32, targets: &[u8], j: u32, claims: bool) -> bool
+    ensures { λ x. ⌜ x ≡ asked claims n (now (targets .entry)) j ⌝ }
+{
+    if !is_placed_target(n, targets, j) {
+        return false;
+    }
+    if claims {
+        return is_ordered(claim_in(targets, j));
+    }
+    true
 }

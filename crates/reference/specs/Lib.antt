@@ -1,3 +1,4 @@
 pub mod Parts
 pub mod Runs
 pub mod Verdicts
+pub mod Works

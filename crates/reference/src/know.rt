@@ -20,11 +20,11 @@ pub(crate) struct Change {
     pub(crate) y: Span,
 }
 
-fn least(x: u32, y: u32) -> u32 {
+pub(crate) fn least(x: u32, y: u32) -> u32 {
     if x < y { x } else { y }
 }
 
-fn most(x: u32, y: u32) -> u32 {
+pub(crate) fn most(x: u32, y: u32) -> u32 {
     if x < y { y } else { x }
 }
 

@@ -3,6 +3,7 @@
 ghost use lib.ListN.{length};
 ghost use Rattle.reference.specs.Runs.{RunSaid};
 ghost use Rattle.reference.specs.Verdicts.{RefusedAs, VerifySaid};
+ghost use Rattle.reference.specs.Works.{WorkSaid};
 
 mod field;
 mod know;
@@ -10,6 +11,8 @@ mod load;
 mod machine;
 mod read;
 mod rules;
+mod sweep;
+mod widen;
 
 use field::shape_of;
 use load::load;
@@ -17,6 +20,8 @@ use machine::start;
 use machine::unrun;
 use read::low;
 use rules::judge_all;
+use sweep::judge_worked_out;
+use widen::write_claims;
 
 pub struct Judged {
     pub accepted: bool,
@@ -54,7 +59,7 @@ pub fn verify(file: &[u8]) -> Judged
     }
     let mut code = [0u32; 32768];
     let mut claims = [0u32; 4096];
-    let loaded = load(file, shape.n, shape.k, &mut code, &mut claims);
+    let loaded = load(file, shape.n, shape.k, false, &mut code, &mut claims);
     if loaded.number != 0 {
         return refused(loaded.number, loaded.place);
     }
@@ -63,6 +68,36 @@ pub fn verify(file: &[u8]) -> Judged
     if judged.number != 0 {
         return refused(judged.number, judged.place);
     }
+    Judged {
+        accepted: true,
+        first: low(shape.n),
+        second: low(shape.k),
+    }
+}
+
+// Works out the inner doors' claims and writes them over those in the file, which are not looked at: ticket 3 of
+// document 02. The answer is `verify`'s of the file with these claims, and only a file that is accepted is written to.
+// The contract does not settle which answer it is, nor which claims are written: that both are right is tested by
+// comparison.
+pub fn work_out(file: &mut [u8]) -> Judged
+    ensures { λ r. ⌜ WorkSaid (now (file .entry)) (now (file .exit)) r ⌝ }
+{
+    let shape = shape_of(file);
+    if shape.number != 0 {
+        return refused(shape.number, shape.place);
+    }
+    let mut code = [0u32; 32768];
+    let mut claims = [0u32; 4096];
+    let loaded = load(file, shape.n, shape.k, true, &mut code, &mut claims);
+    if loaded.number != 0 {
+        return refused(loaded.number, loaded.place);
+    }
+    let layout = shape.layout;
+    let judged = judge_worked_out(&code, &mut claims, layout, shape.n);
+    if judged.number != 0 {
+        return refused(judged.number, judged.place);
+    }
+    write_claims(file, shape.n, shape.k, &claims);
     Judged {
         accepted: true,
         first: low(shape.n),
@@ -89,7 +124,7 @@ pub fn run(
     }
     let mut code = [0u32; 32768];
     let mut claims = [0u32; 4096];
-    let loaded = load(file, shape.n, shape.k, &mut code, &mut claims);
+    let loaded = load(file, shape.n, shape.k, false, &mut code, &mut claims);
     if loaded.number != 0 {
         return unrun(registers, place, loaded.number, loaded.place);
     }

@@ -113,7 +113,7 @@ fn unreadable(code: &[u32], n: usize) -> usize {
 }
 
 // Where door j begins in the file.
-fn door_at(n: usize, j: usize) -> usize
+pub(crate) fn door_at(n: usize, j: usize) -> usize
     ensures { λ r. ⌜ r < 1000000 ⌝ }
 {
     21 + n % 8192 * 8 + j % 4096 * 68
@@ -136,7 +136,8 @@ fn claim_sound(file: &[u8], at: usize, kind: u32) -> bool {
     true
 }
 
-fn door_sound(file: &[u8], n: usize, j: usize) -> bool {
+// Where the claims are `free`, those of inner doors are not looked at.
+fn door_sound(file: &[u8], n: usize, j: usize, free: bool) -> bool {
     let at = door_at(n, j);
     let index = half(file, at);
     let kind = byte(file, at + 2);
@@ -152,14 +153,17 @@ fn door_sound(file: &[u8], n: usize, j: usize) -> bool {
             return false;
         }
     }
+    if free && kind == 0 {
+        return true;
+    }
     claim_sound(file, at, kind)
 }
 
 // The lowest number of a door that is not sound, k where there is none.
-fn unsound(file: &[u8], n: usize, k: usize) -> usize {
+fn unsound(file: &[u8], n: usize, k: usize, free: bool) -> usize {
     let mut j = 0;
     while j < k {
-        if !door_sound(file, n, j) {
+        if !door_sound(file, n, j, free) {
             return j;
         }
         j += 1;
@@ -178,17 +182,31 @@ fn mark_doors(file: &[u8], n: usize, k: usize, code: &mut [u32]) {
     }
 }
 
-fn copy_claims(file: &[u8], n: usize, k: usize, claims: &mut [u32]) {
+// Entry t of the claims. Free ones are anything, as those of open doors are in any case: lowest and highest in turn.
+fn claim_entry(file: &[u8], n: usize, t: usize, free: bool) -> u32 {
+    if free {
+        return if t % 2 == 0 { 0 } else { 4294967295 };
+    }
+    word(file, door_at(n, t / 16) + 4 + t % 16 * 4)
+}
+
+fn lay_claims(file: &[u8], n: usize, k: usize, free: bool, claims: &mut [u32]) {
     let all = k % 4096 * 16;
     let mut t = 0;
     while t < all {
-        let from = door_at(n, t / 16) + 4 + t % 16 * 4;
-        enter(claims, t, word(file, from));
+        enter(claims, t, claim_entry(file, n, t, free));
         t += 1;
     }
 }
 
-pub(crate) fn load(file: &[u8], n: usize, k: usize, code: &mut [u32], claims: &mut [u32]) -> Found
+pub(crate) fn load(
+    file: &[u8],
+    n: usize,
+    k: usize,
+    free: bool,
+    code: &mut [u32],
+    claims: &mut [u32],
+) -> Found
     ensures { λ r. ⌜ LoadSaid n k (r .number) (r .place) ⌝ }
 {
     decode(file, n, code);
@@ -199,7 +217,7 @@ pub(crate) fn load(file: &[u8], n: usize, k: usize, code: &mut [u32], claims: &m
             place: bad,
         };
     }
-    let worse = unsound(file, n, k);
+    let worse = unsound(file, n, k, free);
     if worse < k {
         return Found {
             number: 7,
@@ -207,7 +225,7 @@ pub(crate) fn load(file: &[u8], n: usize, k: usize, code: &mut [u32], claims: &m
         };
     }
     mark_doors(file, n, k, code);
-    copy_claims(file, n, k, claims);
+    lay_claims(file, n, k, free, claims);
     Found {
         number: 0,
         place: 0,

@@ -36,7 +36,7 @@ fn poke(region: &mut [u8], i: usize, v: u32) {
     }
 }
 
-fn store(region: &mut [u8], at: usize, w: u32, v: u32) {
+pub(crate) fn store(region: &mut [u8], at: usize, w: u32, v: u32) {
     let i = at % 4294967296;
     poke(region, i, v);
     if w == 1 {

@@ -18,7 +18,7 @@ use super::read::fetch;
 use super::read::plane;
 use super::read::wide;
 
-fn known(lo: &[u32; 8], hi: &[u32; 8], r: u32) -> Span {
+pub(crate) fn known(lo: &[u32; 8], hi: &[u32; 8], r: u32) -> Span {
     let i = wide(r) % 8;
     Span {
         lo: lo[i],
@@ -34,7 +34,7 @@ fn learn(lo: &mut [u32; 8], hi: &mut [u32; 8], r: u32, x: Span) {
     }
 }
 
-fn changed(lo: &[u32; 8], hi: &[u32; 8], c: Change, r: u32) -> Span {
+pub(crate) fn changed(lo: &[u32; 8], hi: &[u32; 8], c: Change, r: u32) -> Span {
     let x = c.x;
     let y = c.y;
     if c.a == r {
@@ -46,7 +46,7 @@ fn changed(lo: &[u32; 8], hi: &[u32; 8], c: Change, r: u32) -> Span {
     known(lo, hi, r)
 }
 
-fn claimed(claims: &[u32], door: u32, r: u32) -> Span {
+pub(crate) fn claimed(claims: &[u32], door: u32, r: u32) -> Span {
     let i = wide(door) * 16 + wide(r) * 2;
     Span {
         lo: entry(claims, i),
@@ -76,11 +76,11 @@ fn edge(code: &[u32], claims: &[u32], to: usize, lo: &[u32; 8], hi: &[u32; 8], c
     within(claims, plane(code, DOOR, to), lo, hi, c)
 }
 
-fn ends(op: u32) -> bool {
+pub(crate) fn ends(op: u32) -> bool {
     op == 0 || op == 12 || op == 15
 }
 
-fn is_door(code: &[u32], i: usize) -> bool {
+pub(crate) fn is_door(code: &[u32], i: usize) -> bool {
     plane(code, KIND, i) != 0
 }
 
@@ -171,7 +171,7 @@ fn judge(
     0
 }
 
-fn take_claim(claims: &[u32], door: u32, lo: &mut [u32; 8], hi: &mut [u32; 8]) {
+pub(crate) fn take_claim(claims: &[u32], door: u32, lo: &mut [u32; 8], hi: &mut [u32; 8]) {
     let mut r = 0u32;
     while r < 8 {
         learn(lo, hi, r, claimed(claims, door, r));
@@ -179,7 +179,7 @@ fn take_claim(claims: &[u32], door: u32, lo: &mut [u32; 8], hi: &mut [u32; 8]) {
     }
 }
 
-fn pass(code: &[u32], l: Layout, i: usize, lo: &mut [u32; 8], hi: &mut [u32; 8]) {
+pub(crate) fn pass(code: &[u32], l: Layout, i: usize, lo: &mut [u32; 8], hi: &mut [u32; 8]) {
     let x = fetch(code, i);
     let c = after(x, known(lo, hi, x.a), known(lo, hi, x.b), l);
     let y = c.y;

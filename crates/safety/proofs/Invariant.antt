@@ -23,7 +23,7 @@ use Rattle.model.specs.Rules.{LayoutKept, LiesWithin, FileKept, IndexKept, Keep
 use Rattle.model.specs.Safety.{EightWords, ClaimKept}
 use Rattle.model.specs.Accuracy.{Within}
 use Rattle.model.proofs.Accepted.{accepted-iff}
-use Rattle.model.proofs.Targets.{TargetFacts, target-facts}
+use Rattle.model.proofs.Targets.{module-placed, TargetFacts, target-facts}
 use Rattle.model.proofs.Sound.{Sound}
 use Rattle.model.proofs.Accuracy.{NextAccurate, TakenAccurate, file-sound}
 
@@ -52,7 +52,7 @@ accepted-file file bytes passes =
       file-rules = kept .file-rules;
       layout = kept .file-rules .holds .layout;
       sound = file-sound file bytes (kept .file-rules);
-      target = target-facts (kept .file-rules .holds);
+      target = target-facts (module-placed (kept .file-rules .holds));
       rules = kept .code-rules;
     }
 

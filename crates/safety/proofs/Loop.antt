@@ -19,7 +19,7 @@ use Rattle.model.specs.Ranges.{ruleW, guardRange, cut, between, liesWithin}
 use Rattle.model.specs.Program.{Program, targetAt}
 use Rattle.model.specs.Instructions.{carried, guarded, shape, ruleN, afterNext, afterTaken}
 use Rattle.model.specs.Step.{inRegion, inZones, accessing, effect, addressesFrom, settle, stepOf, step}
-use Rattle.model.specs.File.{isListed, field, isLayout, rows, decode, instructionIn, tabulate, claimIn, targetIn, isGoodTarget, fieldValue, readable, programOf, programIn}
+use Rattle.model.specs.File.{isListed, field, isLayout, rows, decode, instructionIn, tabulate, claimIn, targetIn, isPlacedTarget, isGoodTarget, fieldValue, readableBy, readable, programOf, programIn}
 use Rattle.model.specs.Judgement.{knownAt, isReachable, isChecked, isContained, accessContained, jumpsToTarget, staysInside, takenKept, nextKept, beforeNext, atIndex, verified, obligations, firstBroken, judgement}
 use Rattle.model.specs.Run.{run, splice, Seen}
 use Rattle.model.specs.Walk.{Call, hostWrites, walkCall, walk, seenIn}
@@ -32,7 +32,7 @@ use Rattle.model.proofs.Tests.{and-left, and-right}
 
 -- refusals 1 to 7
 unfoldable fileFault : List ℕ → Option Fault
-unfolding readable field fieldValue isListed isLayout instructionIn decode rows isGoodTarget claimIn tabulate readBytes signed allBelow anyBelow eachFrom firstFault
+unfolding readableBy field fieldValue isListed isLayout instructionIn decode rows isPlacedTarget isGoodTarget claimIn tabulate readBytes signed allBelow anyBelow eachFrom firstFault
 fileFault file = firstFault (readable file)
 
 -- refusals 8 to 13

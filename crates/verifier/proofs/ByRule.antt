@@ -22,13 +22,22 @@ use Rattle.model.specs.Quantifiers.{allOf, anyOf}
 use Rattle.model.specs.Ranges.{rangeOf, liesWithin}
 use Rattle.model.specs.Program.{Program, codeAt, targetAt, isTarget}
 use Rattle.model.specs.Instructions.{shape, traits, afterTaken}
-use Rattle.model.specs.File.{claimIn, targetIn}
+use Rattle.model.specs.File.{claimIn, targetIn, programOf}
 use Rattle.model.specs.Judgement.{traitsAt, knownAt, nextRanges, takenRanges, checkedBefore, isReachable, isChecked, isContained, accessContained, jumpsToTarget, staysInside, takenKept, nextKept}
 use Rattle.model.proofs.RuleW.{Signed32}
 use Rattle.reader.specs.declared.lookup.Lookup.{Lookup}
 use Rattle.reader.specs.declared.lookup.Lookup.the-variants.{At, Nowhere}
-use Rattle.reader.specs.Lookups.{targetFound}
+use Rattle.reader.specs.Lookups.{FindsNamed, targetFound}
+use Rattle.reader.specs.Readings.{Loaded}
+use Rattle.reader.proofs.Searches.{found-target}
 use Rattle.verifier.specs.Standing.{arrivesAt, targetNamed}
+
+-- what is found at a named index is the module's target there
+pub named-target : {l : Layout} {code targets : List ℕ} {n k : ℕ} → Loaded l code targets n k → (to : Option ℕ) (found : Lookup)
+    → FindsNamed targets k to found → targetFound targets found ≡ targetNamed (programOf l code targets .targets) to
+unfolding targetFound
+named-target loaded none found is = rw is
+named-target loaded (some to) found finds = found-target loaded to found finds
 
 -- 12
 pub reachable-is : (p : Program) (i : ℕ) → (arrivesAt p i || isTarget (p .targets) i) ≡ isReachable p i

@@ -2,6 +2,7 @@
 -- Assumes nothing.
 use Prim.Native.Nat.{ℕ}
 use mathlib.Core.Path.{_≡_, sym, _∙_}
+use mathlib.Core.Bool.{true}
 use mathlib.Core.List.{List}
 use mathlib.Core.Option.{none, some}
 use Rattle.model.specs.declared.Layout.{Layout}
@@ -28,7 +29,7 @@ module _ (file : List ℕ) where
   unfolding firstBroken obligations
   unreadable x first = refused-with x (append-faulty (readable file) (verified (programIn file)) (faultOf x) first)
 
-  module _ {l : Layout} {n k : ℕ} (facts : ReadFacts file l n k) (r : Finding) {code targets : List ℕ}
+  module _ {l : Layout} {n k : ℕ} (facts : ReadFacts true file l n k) (r : Finding) {code targets : List ℕ}
       (is-code : code ≡ codeIn file) (is-targets : targets ≡ targetsIn file) (checked : faultIn r ≡ firstFault (verified (programOf l code targets))) where
     -- behind rules 1 to 7 the first fault is that of the code
     code-decides : firstBroken file ≡ faultIn r

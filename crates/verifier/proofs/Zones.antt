@@ -1,5 +1,5 @@
 -- Rule 10 on ends that are kept raised by 2^32: the code's two comparisons are the definition's. Assumes nothing.
-use Prim.Native.Nat.{ℕ, suc, _+_, _-_, _≤_, _<_}
+use Prim.Native.Nat.{ℕ, suc, _+_, _-_, _%_, _^_, _≤_, _<_}
 use mathlib.Core.Path.{_≡_, refl, sym, ap, ap₂, _∙_}
 use mathlib.Core.Bool.{Bool, true, false, _&&_}
 use native.Mathlib.Omega.{arith}
@@ -25,6 +25,11 @@ use Rattle.model.proofs.Containment.{few-bytes}
 -- DB to DL, with the size less one added to the base
 pub region-ends : {l : Layout} → LayoutKept l → range (l .base) (l .base + (l .size - 1)) ≡ regionRange l
 region-ends {l} kept = ap (range (l .base)) (omega (arith, some-size kept))
+
+-- and neither the difference nor the sum wraps
+pub last-unwrapped : {l : Layout} → LayoutKept l → (less : ℕ) → less < 2 ^ 32 → (less + 1) % 2 ^ 32 ≡ l .size
+    → (last : ℕ) → last ≡ (l .base + less) % 2 ^ 32 → last ≡ l .base + (l .size - 1)
+last-unwrapped {l} kept less fits is-less last is-last = omega (arith, some-size kept, kept .above)
 
 -- two comparisons that say the same
 same-order : (a b c d : ℕ) → (a ≤ b → c ≤ d) → (c ≤ d → a ≤ b) → leb a b ≡ leb c d

@@ -1,5 +1,6 @@
 // Rules 8 to 13 at one index, each with its number and under the model's name. What a rule is given is the module's at that index,
-// and then its answer is the model's.
+// and then its answer is the model's. What an instruction's edges are, others may ask too: whether it goes on, and the target that it
+// names.
 use model::Instruction;
 use model::Layout;
 use model::Range;
@@ -31,12 +32,12 @@ ghost use Rattle.model.specs.File.{claimIn, programOf};
 ghost use Rattle.model.specs.Judgement.{traitsAt, knownAt, nextRanges, checkedBefore, isReachable, isChecked, isContained, accessContained, jumpsToTarget, staysInside, takenKept, nextKept, beforeNext};
 ghost use Rattle.model.specs.Rules.{LayoutKept};
 ghost use Rattle.reader.specs.Findings.{faultIn};
-ghost use Rattle.reader.specs.Lookups.{targetFound};
+ghost use Rattle.reader.specs.Lookups.{FindsNamed, targetFound};
 ghost use Rattle.reader.specs.Readings.{Loaded};
 ghost use Rattle.verifier.specs.Standing.{arrivesAt, targetNamed, Standing};
 
 // The instruction can go on to the next index.
-pub(crate) fn falls(instruction: Instruction) -> bool
+pub fn falls(instruction: Instruction) -> bool
     ensures { λ r. ⌜ r ≡ traits (shape instruction) .falls ⌝ }
 {
     match instruction {
@@ -48,8 +49,8 @@ pub(crate) fn falls(instruction: Instruction) -> bool
 }
 
 // The target that the instruction names, as a jump and a branch do.
-fn target_named(targets: &[u8], k: u32, instruction: Instruction) -> Lookup
-    ensures { λ r. ⌜ ((l : Layout) (code : List ℕ) (n : ℕ) → Loaded l code (now (targets .entry)) n k → targetFound (now (targets .entry)) r ≡ targetNamed (programOf l code (now (targets .entry)) .targets) (traits (shape instruction) .names)) ⌝ }
+pub fn target_named(targets: &[u8], k: u32, instruction: Instruction) -> Lookup
+    ensures { λ r. ⌜ FindsNamed (now (targets .entry)) k (traits (shape instruction) .names) r ⌝ }
 {
     match instruction {
         Instruction::Jump { to } => lookup::find(targets, k, to),

@@ -31,14 +31,14 @@ ghost use Rattle.reader.specs.Readings.{Loaded};
 // No index: what stands behind the last target.
 const BEYOND: u32 = 65536;
 
-// DB to DL.
-fn region_of(layout: Layout) -> Range
-    requires { ⌜ LayoutKept layout ⌝ }
-    ensures { λ r. ⌜ r ≡ regionRange layout ⌝ }
+// DB to DL. Where rule 5 is not kept the end is cut to 32 bits.
+pub fn region_of(layout: Layout) -> Range
+    ensures { λ r. ⌜ (LayoutKept layout → r ≡ regionRange layout) ⌝ }
 {
+    let last = std::num::wrapping_sub_u32(layout.size, 1);
     Range {
         low: layout.base,
-        high: layout.base + (layout.size - 1),
+        high: std::num::wrapping_add_u32(layout.base, last),
     }
 }
 

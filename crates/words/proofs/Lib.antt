@@ -1,3 +1,4 @@
 pub mod Signed
 pub mod Wrapping
 pub mod LittleEndian
+pub mod Writes

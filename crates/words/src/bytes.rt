@@ -1,8 +1,10 @@
-// Little-endian reads. A byte past the end reads as 0; inside, a read is one load.
+// Little-endian reads and writes. A byte past the end reads as 0; inside, a read is one load.
 ghost use mathlib.Core.Path.{_≡_};
 ghost use Prim.Native.Nat.{_+_, _*_, _<_};
-ghost use lib.ListN.{getD};
-ghost use Rattle.model.specs.Words.{readBytes};
+ghost use mathlib.Core.Bool.{cond};
+ghost use lib.Dec.{leb};
+ghost use lib.ListN.{length, getD};
+ghost use Rattle.model.specs.Words.{readBytes, writeBytes};
 
 fn wide(x: u8) -> u32
     ensures { λ r. ⌜ (r ≡ x) × (r < 256) ⌝ }
@@ -50,4 +52,21 @@ pub fn read_u32(bytes: &[u8], at: usize) -> u32
         return little_endian(bytes[at], byte_at(bytes, at + 1), byte_at(bytes, at + 2), 0);
     }
     little_endian(bytes[at], bytes[at + 1], bytes[at + 2], bytes[at + 3])
+}
+
+// The four bytes of a number, from an offset on; nothing where they are not all there.
+pub fn write_u32(bytes: &mut [u8], at: usize, x: u32)
+    ensures { λ r. ⌜ now (bytes .exit) ≡ cond (leb (at + 4) (length (now (bytes .entry)))) (writeBytes 4 x (now (bytes .entry)) at) (now (bytes .entry)) ⌝ }
+{
+    let all = bytes.len();
+    if all < 4 {
+        return;
+    }
+    if all - 4 < at {
+        return;
+    }
+    bytes[at] = (x % 256) as u8;
+    bytes[at + 1] = (x / 256 % 256) as u8;
+    bytes[at + 2] = (x / 65536 % 256) as u8;
+    bytes[at + 3] = (x / 16777216 % 256) as u8;
 }

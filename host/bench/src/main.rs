@@ -16,8 +16,9 @@ use std::process::ExitCode;
 use work::{Bench, Work};
 
 const USAGE: &str = "usage: bench times
-       bench count proved|hand-written read|verify|loop|mixed|judge-loop|judge-mixed N
-       bench write FOLDER";
+       bench count proved|hand-written WORK N
+       bench write FOLDER
+WORK is read, verify, loop, mixed, judge-loop, judge-mixed, claims-mixed, claims-largest or claims-slowest";
 
 /// How many generated files `bench write` adds.
 const GENERATED: u64 = 400;

@@ -6,6 +6,9 @@ use std::time::{Duration, Instant};
 
 const ROUNDS: usize = 250;
 
+/// Work that takes longer than a measurement is measured in fewer rounds, but in so many at least.
+const LEAST_ROUNDS: usize = 3;
+
 /// About how long the slower takes for a measurement: so short that on a busy machine too some are not
 /// interrupted.
 const MEASUREMENT: Duration = Duration::from_millis(2);
@@ -21,9 +24,11 @@ pub fn print_times() {
 
 /// Nanoseconds per unit of work, of each side.
 fn measure(bench: &mut Bench, work: Work) -> [f64; 2] {
-    let times = repetitions(bench, work);
+    let once = duration(bench, work).as_nanos();
+    let times = (MEASUREMENT.as_nanos() / once).clamp(1, 1_000_000) as u32;
+    let rounds = (ROUNDS as u128 * MEASUREMENT.as_nanos() / once) as usize;
     let mut least = [f64::INFINITY; 2];
-    for round in 0..ROUNDS {
+    for round in 0..rounds.clamp(LEAST_ROUNDS, ROUNDS) {
         bench.clear();
         // Each is the first in every other round.
         for turn in 0..2 {
@@ -39,17 +44,20 @@ fn measure(bench: &mut Bench, work: Work) -> [f64; 2] {
     least
 }
 
-/// How often the work fits a measurement, by the slower.
-fn repetitions(bench: &mut Bench, work: Work) -> u32 {
+/// About how long the slower takes for the work, and not 0.
+fn duration(bench: &mut Bench, work: Work) -> Duration {
     let slower = Side::BOTH.into_iter().map(|side| {
-        let trials = (0..20).map(|_| {
+        let mut least = Duration::MAX;
+        for _ in 0..20 {
             let begin = Instant::now();
             bench.repeat(side, work, 1);
-            begin.elapsed()
-        });
-        trials.min().expect("there are trials")
+            least = least.min(begin.elapsed());
+            if least > MEASUREMENT {
+                break;
+            }
+        }
+        least
     });
     let slower = slower.max().expect("there are two");
-    let once = slower.max(Duration::from_nanos(1));
-    (MEASUREMENT.as_nanos() / once.as_nanos()).clamp(1, 1_000_000) as u32
+    slower.max(Duration::from_nanos(1))
 }

@@ -18,16 +18,25 @@ pub enum Work {
     JudgeLoop,
     /// Begins a run of the mixed module with budget 0.
     JudgeMixed,
+    /// Works out the claims of the mixed module.
+    ClaimsMixed,
+    /// Works out the claims of the largest module.
+    ClaimsLargest,
+    /// Works out the claims of the slowest module.
+    ClaimsSlowest,
 }
 
 impl Work {
-    pub const ALL: [Work; 6] = [
+    pub const ALL: [Work; 9] = [
         Work::Read,
         Work::Verify,
         Work::Loop,
         Work::Mixed,
         Work::JudgeLoop,
         Work::JudgeMixed,
+        Work::ClaimsMixed,
+        Work::ClaimsLargest,
+        Work::ClaimsSlowest,
     ];
 
     pub fn name(self) -> &'static str {
@@ -38,6 +47,9 @@ impl Work {
             Work::Mixed => "mixed",
             Work::JudgeLoop => "judge-loop",
             Work::JudgeMixed => "judge-mixed",
+            Work::ClaimsMixed => "claims-mixed",
+            Work::ClaimsLargest => "claims-largest",
+            Work::ClaimsSlowest => "claims-slowest",
         }
     }
 
@@ -50,17 +62,17 @@ impl Work {
         match self {
             Work::Read | Work::Verify => "instruction",
             Work::Loop | Work::Mixed => "step",
-            Work::JudgeLoop | Work::JudgeMixed => "call",
+            _ => "call",
         }
     }
 
-    /// The instructions that are judged, or the steps that are made.
+    /// The instructions that are judged, or the steps that are made; 0 where the unit is a call.
     fn count(self) -> u32 {
         match self {
             Work::Read | Work::Verify => 4096,
             Work::Loop => samples::LOOP_STEPS,
             Work::Mixed => MIXED_STEPS,
-            Work::JudgeLoop | Work::JudgeMixed => 0,
+            _ => 0,
         }
     }
 
@@ -81,6 +93,9 @@ pub struct Bench {
     largest: Vec<u8>,
     document_loop: Vec<u8>,
     mixed: Vec<u8>,
+    slowest: Vec<u8>,
+    /// The mixed, the largest and the slowest module once more, whose claims are worked out.
+    worked_out: [Vec<u8>; 3],
     memories: [Vec<u8>; 2],
 }
 
@@ -89,10 +104,15 @@ const MEMORY_LENGTH: usize = 8192;
 
 impl Bench {
     pub fn new() -> Bench {
+        let largest = samples::largest().to_bytes();
+        let mixed = samples::mixed().to_bytes();
+        let slowest = samples::slowest().to_bytes();
         let bench = Bench {
-            largest: samples::largest().to_bytes(),
+            worked_out: [mixed.clone(), largest.clone(), slowest.clone()],
+            largest,
             document_loop: samples::document_loop().to_bytes(),
-            mixed: samples::mixed().to_bytes(),
+            mixed,
+            slowest,
             memories: [(); 2].map(|()| vec![0; MEMORY_LENGTH]),
         };
         for (name, file) in bench.files() {
@@ -103,11 +123,12 @@ impl Bench {
         bench
     }
 
-    pub fn files(&self) -> [(&'static str, &[u8]); 3] {
+    pub fn files(&self) -> [(&'static str, &[u8]); 4] {
         [
             ("largest", &self.largest),
             ("loop", &self.document_loop),
             ("mixed", &self.mixed),
+            ("slowest", &self.slowest),
         ]
     }
 
@@ -125,10 +146,14 @@ impl Bench {
 
     /// Does a piece of work `times` times. Answers how many units were done in all.
     pub fn repeat(&mut self, side: Side, work: Work, times: u32) -> u64 {
+        let [claims_mixed, claims_largest, claims_slowest] = &mut self.worked_out;
         let file = match work {
-            Work::Read | Work::Verify => &self.largest,
-            Work::Loop | Work::JudgeLoop => &self.document_loop,
-            Work::Mixed | Work::JudgeMixed => &self.mixed,
+            Work::Read | Work::Verify => &mut self.largest,
+            Work::Loop | Work::JudgeLoop => &mut self.document_loop,
+            Work::Mixed | Work::JudgeMixed => &mut self.mixed,
+            Work::ClaimsMixed => claims_mixed,
+            Work::ClaimsLargest => claims_largest,
+            Work::ClaimsSlowest => claims_slowest,
         };
         let memory = &mut self.memories[side as usize];
         for _ in 0..times {
@@ -140,8 +165,14 @@ impl Bench {
 }
 
 /// Does a piece of work and answers the instructions judged, or the steps made.
-fn do_once(side: Side, file: &[u8], memory: &mut [u8], work: Work) -> u32 {
+fn do_once(side: Side, file: &mut [u8], memory: &mut [u8], work: Work) -> u32 {
     match work {
+        // The claims that the file has then are ignored the next time, so that each time is like the first.
+        Work::ClaimsMixed | Work::ClaimsLargest | Work::ClaimsSlowest => {
+            let worked_out = side.work_out(black_box(file));
+            black_box(worked_out).expect("the module is accepted");
+            0
+        }
         Work::Read => {
             let read = side.read(black_box(file));
             let [.., instructions, _] = black_box(read).expect("the module is readable");

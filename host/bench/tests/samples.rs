@@ -1,7 +1,7 @@
 //! The measured modules are what the table says of them.
 
 use modules::encode::{op, Module};
-use modules::samples::{document_loop, largest, mixed};
+use modules::samples::{document_loop, largest, mixed, slowest};
 use sides::{Machine, Side};
 use std::collections::BTreeSet;
 
@@ -22,7 +22,7 @@ fn steps(side: Side, module: &Module, count: usize) -> BTreeSet<(usize, usize)> 
 
 #[test]
 fn all_are_accepted() {
-    for module in [document_loop(), largest(), mixed()] {
+    for module in [document_loop(), largest(), mixed(), slowest()] {
         for side in Side::BOTH {
             let verified = side.verify(&module.to_bytes());
             verified.expect("the module is accepted");
@@ -31,11 +31,13 @@ fn all_are_accepted() {
 }
 
 #[test]
-fn the_largest_is_the_largest() {
-    let file = largest().to_bytes();
-    assert_eq!(file.len(), 50_197);
-    for side in Side::BOTH {
-        assert_eq!(side.verify(&file), Ok([4096, 256]));
+fn the_largest_and_the_slowest_are_the_largest() {
+    for module in [largest(), slowest()] {
+        let file = module.to_bytes();
+        assert_eq!(file.len(), 50_197);
+        for side in Side::BOTH {
+            assert_eq!(side.verify(&file), Ok([4096, 256]));
+        }
     }
 }
 

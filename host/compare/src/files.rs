@@ -1,8 +1,9 @@
-//! One generated file: what `read` and `verify` answer.
+//! One generated file: what `read` and `verify` answer, and what `work_out` makes of it.
 
 use crate::difference::hexadecimal;
 use crate::signed::Seen;
 use crate::tally::Tally;
+use crate::worked::Worked;
 use modules::generate::{generate, Generated, Origin};
 use modules::random::Random;
 use sides::{verify_by_earlier_rule_n, Side, Verdict};
@@ -10,13 +11,13 @@ use sides::{verify_by_earlier_rule_n, Side, Verdict};
 pub fn compare_file(seed: u64, case: u64, tally: &mut Tally) -> Result<(), String> {
     let mut random = Random::for_case(seed, case);
     let generated = generate(&mut random);
-    judge(&generated, tally).map_err(|what| {
+    judge(&generated, &mut random, tally).map_err(|what| {
         let (origin, file) = (generated.origin.name(), hexadecimal(&generated.file));
         format!("{what}\norigin: {origin}\nfile: {file}")
     })
 }
 
-fn judge(generated: &Generated, tally: &mut Tally) -> Result<(), String> {
+fn judge(generated: &Generated, random: &mut Random, tally: &mut Tally) -> Result<(), String> {
     let file = &generated.file;
     let read = same("read", Side::BOTH.map(|side| side.read(file)))?;
     let verified = same("verify", Side::BOTH.map(|side| side.verify(file)))?;
@@ -28,7 +29,9 @@ fn judge(generated: &Generated, tally: &mut Tally) -> Result<(), String> {
     if generated.origin == Origin::Signed && !seen.is_turned() {
         return Err("made to be accepted without the sign, but is not".into());
     }
+    let worked = Worked::of(file, verified, random)?;
     tally.count_module(generated.origin, read, verified);
+    tally.count_worked(generated.origin, &worked);
     tally.count_turn(generated.origin, verified, earlier);
     tally.count_signed(generated.origin, &seen);
     Ok(())

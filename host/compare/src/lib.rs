@@ -9,10 +9,12 @@ mod plan;
 mod signed;
 mod tally;
 mod turns;
+mod worked;
 
 pub use difference::Difference;
 pub use signed::Seen;
 pub use tally::Tally;
+pub use worked::Worked;
 
 use difference::guarded;
 

@@ -17,16 +17,21 @@ const KNOWN_TO_END: u32 = 5000;
 pub fn compare_list(seed: u64, case: u64, tally: &mut Tally) -> Result<(), String> {
     // Other numbers than those of the modules' cases.
     let mut random = Random::for_case(seed ^ 0x6c69_7374, case);
-    let origin = match random.below(50) {
+    let origin = match random.below(53) {
         0..=27 => Origin::Valid,
         28..=40 => Origin::Near,
         41..=44 => Origin::Damaged,
         45 | 46 => Origin::Narrowed,
         47 => Origin::EmptyN,
         48 => Origin::EmptyB,
+        49..=51 => Origin::Growing,
         _ => Origin::Signed,
     };
-    let generated = generate_from(origin, &mut random);
+    let mut generated = generate_from(origin, &mut random);
+    if origin == Origin::Growing {
+        // Mostly accepted then: what is promised of runs holds for these too.
+        let _ = Side::Proved.work_out(&mut generated.file);
+    }
     let mut list = List::new(&mut random, &generated);
     tally.count_list();
     for number in 0..1 + random.below(8) {

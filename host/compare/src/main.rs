@@ -1,5 +1,6 @@
 //! `compare [SEED [MODULES [LISTS]]]`: compares the proved library with the hand-written one, and fails if anything
-//! differs or if a refusal, an ending, a wanted turn of a verdict or a wanted kind of signed load never occurred.
+//! differs or if a refusal, an ending, a wanted turn of a verdict, or a wanted kind of signed load or of claims that
+//! are worked out never occurred.
 
 use compare::{compare, SEED};
 use std::env;
@@ -24,7 +25,7 @@ fn main() -> ExitCode {
     print!("{tally}");
     let missing = tally.missing();
     if missing.is_empty() {
-        println!("no difference; every refusal, ending, wanted turn and wanted kind of signed load occurred");
+        println!("no difference; every refusal, ending, wanted turn and wanted kind occurred");
         ExitCode::SUCCESS
     } else {
         println!("NEVER OCCURRED: {}", missing.join(", "));

@@ -1,9 +1,10 @@
-//! How often each refusal, each ending, each turn of a verdict and each kind of signed load occurred, so that nothing
-//! is believed compared that never happened.
+//! How often each refusal, each ending, each turn of a verdict, each kind of signed load and each kind of claims that
+//! are worked out occurred, so that nothing is believed compared that never happened.
 
 use crate::counts::Counts;
 use crate::signed::{Seen, Signed};
 use crate::turns::Turns;
+use crate::worked::{Worked, Workings};
 use madsjirn::{Ending, Rule};
 use modules::generate::Origin;
 use sides::{Ran, Read, Refused, Verdict};
@@ -16,9 +17,11 @@ pub struct Tally {
     modules: [(u64, u64); Origin::ALL.len()],
     turns: Turns,
     signed: Signed,
+    workings: Workings,
     /// Refusals by number; 0 counts what was not refused.
     read: Counts,
     verify: Counts,
+    work_out: Counts,
     run: Counts,
     endings: Counts,
     lists: u64,
@@ -53,6 +56,12 @@ impl Tally {
         self.signed.count_run(width);
     }
 
+    /// Counts what became of a file's claims.
+    pub fn count_worked(&mut self, origin: Origin, worked: &Worked) {
+        self.work_out.count(number(worked.verdict.err()));
+        self.workings.count(origin, worked);
+    }
+
     pub fn count_list(&mut self) {
         self.lists += 1;
     }
@@ -68,7 +77,7 @@ impl Tally {
         }
     }
 
-    /// The refusals, endings, turns and kinds of signed loads that never occurred.
+    /// The refusals, endings, turns, kinds of signed loads and kinds of claims worked out that never occurred.
     pub fn missing(&self) -> Vec<String> {
         let refusals = Rule::ALL.into_iter().filter(|rule| {
             let times = self.refusals(rule.number());
@@ -81,18 +90,24 @@ impl Tally {
             .chain(endings.map(|ending| ending.to_string()))
             .chain(self.turns.missing())
             .chain(self.signed.missing())
+            .chain(self.workings.missing())
             .collect()
     }
 
-    /// How often a refusal was answered by read, by verify and by run.
-    fn refusals(&self, number: u32) -> [u64; 3] {
-        [&self.read, &self.verify, &self.run].map(|counts| counts.of(number))
+    /// The refusals of read, verify, work_out and run.
+    fn answers(&self) -> [&Counts; 4] {
+        [&self.read, &self.verify, &self.work_out, &self.run]
+    }
+
+    /// How often each of them answered a refusal.
+    fn refusals(&self, number: u32) -> [u64; 4] {
+        self.answers().map(|counts| counts.of(number))
     }
 
     /// The refusals that have a name or occurred, and 0.
     fn refusal_numbers(&self) -> BTreeSet<u32> {
         let named = Rule::ALL.into_iter().map(Rule::number);
-        let occurred = [&self.read, &self.verify, &self.run].map(Counts::numbers);
+        let occurred = self.answers().map(Counts::numbers);
         let occurred = occurred.into_iter().flatten();
         named.chain(occurred).chain([0]).collect()
     }
@@ -136,15 +151,15 @@ impl Tally {
     fn write_refusals(&self, out: &mut fmt::Formatter<'_>) -> fmt::Result {
         writeln!(
             out,
-            "{:<34} {:>9} {:>9} {:>9}",
-            "refusals", "read", "verify", "run"
+            "{:<34} {:>9} {:>9} {:>9} {:>9}",
+            "refusals", "read", "verify", "work out", "run"
         )?;
         for number in self.refusal_numbers() {
-            let (name, [read, verify, run]) = (refusal_name(number), self.refusals(number));
-            writeln!(
-                out,
-                "  {number:>2} {name:<29} {read:>9} {verify:>9} {run:>9}"
-            )?;
+            write!(out, "  {number:>2} {:<29}", refusal_name(number))?;
+            for times in self.refusals(number) {
+                write!(out, " {times:>9}")?;
+            }
+            writeln!(out)?;
         }
         Ok(())
     }
@@ -181,6 +196,7 @@ impl fmt::Display for Tally {
         self.write_modules(out)?;
         self.turns.fmt(out)?;
         self.signed.write_modules(out)?;
+        self.workings.fmt(out)?;
         self.write_lists(out)?;
         self.signed.write_runs(out)?;
         self.write_refusals(out)?;

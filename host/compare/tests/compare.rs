@@ -1,9 +1,12 @@
 //! A smaller portion of what the program `compare` does.
 
-use compare::{compare, Seen, Tally, SEED};
+use compare::{compare, Seen, Tally, Worked, SEED};
 use modules::assembler::*;
-use modules::encode::{claim, Instruction, Layout, Module, Target};
+use modules::encode::{claim, test, Instruction, Layout, Module, Range, Target};
+use modules::gate;
 use modules::generate::Origin;
+use modules::random::Random;
+use modules::samples::document_loop;
 use sides::Side;
 
 #[test]
@@ -102,4 +105,95 @@ fn files_with_signed_widths() -> Vec<Vec<u8>> {
     files.extend([1, 2].map(at_a_sample));
     files.extend([1, 2].map(claimed));
     files
+}
+
+#[test]
+fn a_kind_of_claims_worked_out_that_never_occurred_is_missing() {
+    let mut tally = Tally::default();
+    for (file, kinds) in files_with_claims() {
+        let due = missing_claims(&tally).into_iter();
+        let due: Vec<String> = due.filter(|kind| !kinds.contains(&kind.as_str())).collect();
+        count_claims(&mut tally, &file);
+        assert_eq!(missing_claims(&tally), due, "{kinds:?}");
+    }
+    let mut left = missing_claims(&tally);
+    left.retain(|kind| !kind.starts_with("refused "));
+    assert_eq!(left, Vec::<String>::new());
+    for case in gate::cases() {
+        count_claims(&mut tally, &case.file);
+    }
+    assert_eq!(missing_claims(&tally), Vec::<String>::new());
+}
+
+fn count_claims(tally: &mut Tally, file: &[u8]) {
+    let verified = Side::HandWritten.verify(file);
+    let worked = Worked::of(file, verified, &mut Random::for_case(SEED, 0));
+    tally.count_worked(Origin::Near, &worked.expect("both answer alike"));
+}
+
+fn missing_claims(tally: &Tally) -> Vec<String> {
+    let missing = tally.missing().into_iter();
+    let kinds = missing.filter_map(|kind| Some(kind.strip_suffix(" (claims worked out)")?.into()));
+    kinds.collect()
+}
+
+/// Files with the kinds that they show for the first time.
+fn files_with_claims() -> Vec<(Vec<u8>, Vec<&'static str>)> {
+    let crossed = [(u32::MAX, 0); 8];
+    let start = Target::indirect(0);
+    let looping = |r1: Range| {
+        let mut module = document_loop();
+        module.targets[1].claim = claim(&[(1, r1)]);
+        module.to_bytes()
+    };
+    let counted = |after: &[Instruction]| {
+        let begin = [
+            set(0, 0),
+            set(1, 100),
+            addi(0, 1),
+            branch(0, 1, test::BELOW, 2),
+        ];
+        let code = [&begin, after].concat();
+        Module::known(&code, &[start, Target::direct(2, crossed)]).to_bytes()
+    };
+    let behind_a_halt = |instruction: Instruction, ranges: &[(usize, Range)]| {
+        let unreached = Target::direct(1, claim(ranges));
+        Module::known(&[halt(), instruction, halt()], &[start, unreached]).to_bytes()
+    };
+    let bad_zero = Target {
+        zero: 1,
+        ..Target::direct(2, crossed)
+    };
+    let bad_targets = [start, Target::direct(1, crossed), bad_zero];
+    let through_r0 = load(2, 0, 1, Layout::KNOWN.base as i32);
+    let region = Layout::KNOWN.region();
+    vec![
+        (
+            Module::known(&[halt()], &[start]).to_bytes(),
+            vec!["accepted as it came"],
+        ),
+        (
+            looping((1, 0)),
+            vec!["accepted, other claims", "accepted, as it came 7"],
+        ),
+        (looping((0, u32::MAX)), vec!["accepted, as it came 10"]),
+        (looping(region), vec!["accepted, as it came 11"]),
+        (counted(&[halt()]), vec!["accepted, a ninth growth"]),
+        (
+            counted(&[through_r0, halt()]),
+            vec!["refused 10, a ninth growth", "refused 10"],
+        ),
+        (
+            behind_a_halt(copy(0, 1), &[]),
+            vec!["accepted, unreached targets"],
+        ),
+        (
+            behind_a_halt(load(0, 1, 1, 0), &[(1, region)]),
+            vec!["refused 10, as it came not"],
+        ),
+        (
+            Module::known(&[halt(); 3], &bad_targets).to_bytes(),
+            vec!["refused 7 at a later target", "refused 7"],
+        ),
+    ]
 }

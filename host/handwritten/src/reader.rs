@@ -1,16 +1,14 @@
 //! The file's form: three fields, the layout, every instruction, every target.
 
 use crate::decoder::SIGN;
+use crate::ranges::{high, low, ANYTHING};
 use crate::{Accepted, Refusal};
 
 pub(crate) const MAX_INSTRUCTIONS: usize = 4096;
-const MAX_TARGETS: usize = 256;
+pub(crate) const MAX_TARGETS: usize = 256;
 
 pub(crate) type Instruction = [u8; 8];
 pub(crate) type Target = [u8; 68];
-
-/// The range 0 to 2^32 - 1 as it stands in a claim: lowest, then highest.
-const ANYTHING: u64 = 0xFFFF_FFFF_0000_0000;
 
 #[derive(Clone, Copy)]
 pub(crate) struct Layout {
@@ -43,7 +41,8 @@ pub(crate) fn is_indirect(target: &Target) -> bool {
     target[2] == 1
 }
 
-pub(crate) fn parts(file: &[u8]) -> Result<Parts<'_>, Refusal> {
+/// Refusals 1 to 7. `CLAIMED` says whether the claims of direct targets are judged too.
+pub(crate) fn parts<const CLAIMED: bool>(file: &[u8]) -> Result<Parts<'_>, Refusal> {
     let mut at = 0;
     let layout = field(file, &mut at, 1, 12, 1)?;
     let code = field(file, &mut at, 2, 8, MAX_INSTRUCTIONS)?;
@@ -55,7 +54,7 @@ pub(crate) fn parts(file: &[u8]) -> Result<Parts<'_>, Refusal> {
     let code = code.as_chunks().0;
     let targets = targets.as_chunks().0;
     judge_code(code)?;
-    judge_targets(targets, code.len())?;
+    judge_targets::<CLAIMED>(targets, code.len())?;
     Ok(Parts {
         layout,
         code,
@@ -162,7 +161,10 @@ fn judge_code(code: &[Instruction]) -> Result<(), Refusal> {
     first.map_or(Ok(()), |i| Err(refusal(6, i)))
 }
 
-fn judge_targets(targets: &[Target], instructions: usize) -> Result<(), Refusal> {
+fn judge_targets<const CLAIMED: bool>(
+    targets: &[Target],
+    instructions: usize,
+) -> Result<(), Refusal> {
     // The least index that rises; the first target is indirect and has index 0.
     let mut least = 0;
     for (place, target) in targets.iter().enumerate() {
@@ -171,7 +173,7 @@ fn judge_targets(targets: &[Target], instructions: usize) -> Result<(), Refusal>
         let good = at >= least
             && at < instructions
             && kind_and_zero <= 1
-            && claim_is_good(target)
+            && claim_is_good::<CLAIMED>(target)
             && (place > 0 || at == 0 && is_indirect(target));
         if !good {
             return Err(refusal(7, place));
@@ -181,17 +183,17 @@ fn judge_targets(targets: &[Target], instructions: usize) -> Result<(), Refusal>
     Ok(())
 }
 
-fn claim_is_good(target: &Target) -> bool {
+fn claim_is_good<const CLAIMED: bool>(target: &Target) -> bool {
     let mut disorder = false;
     let mut narrow = 0;
     for pair in target[4..].as_chunks::<8>().0 {
         let pair = u64::from_le_bytes(*pair);
-        disorder |= pair as u32 > (pair >> 32) as u32;
+        disorder |= low(pair) > high(pair);
         narrow |= pair ^ ANYTHING;
     }
     if is_indirect(target) {
         narrow == 0
     } else {
-        !disorder
+        !(CLAIMED && disorder)
     }
 }

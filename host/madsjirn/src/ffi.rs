@@ -38,6 +38,7 @@ pub(crate) struct Answer {
 extern "C" {
     fn madsjirn_read(file: *const u8, file_length: usize) -> Module;
     fn madsjirn_verify(file: *const u8, file_length: usize) -> Verdict;
+    fn madsjirn_work_out(file: *mut u8, file_length: usize) -> Verdict;
     fn madsjirn_run(
         file: *const u8,
         file_length: usize,
@@ -66,6 +67,11 @@ pub(crate) fn read(file: &[u8]) -> Module {
 pub(crate) fn verify(file: &[u8]) -> Verdict {
     // SAFETY: as for `read`.
     unsafe { madsjirn_verify(file.as_ptr(), file.len()) }
+}
+
+pub(crate) fn work_out(file: &mut [u8]) -> Verdict {
+    // SAFETY: as for `read`, and the slice is borrowed mutably, so that it is valid to write too.
+    unsafe { madsjirn_work_out(file.as_mut_ptr(), file.len()) }
 }
 
 pub(crate) fn run(

@@ -1,11 +1,12 @@
 //! Judges and runs modules with the proved library `libmadsjirn.a`.
 //!
 //! Every function takes anything: there is nothing to test beforehand. It gives the result or a
-//! [`Refusal`], and a refusal leaves the machine and every byte of the memory as they were.
+//! [`Refusal`], and a refusal leaves the machine and every byte of memory and file as they were.
 //! Nothing is kept between calls: each gets the module's bytes and judges them. There is no heap.
 //!
 //! [`verify`] makes a [`Verified`] of an accepted module, and with it comes
 //! [the promise](Verified#the-promise): begun at an indirect target, it never leaves its region and guard zones.
+//! [`work_out`] does so too, for builders without a tool for claims: it writes the claims itself.
 //!
 //! What the functions answer is proved. Not proved is this wrapper, which only turns numbers into types.
 //!
@@ -68,4 +69,4 @@ mod verified;
 pub use answers::{Ending, Layout, Machine, Module, Run};
 pub use calls::{read, run, step};
 pub use refusal::{Refusal, Rule};
-pub use verified::{verify, Verified};
+pub use verified::{verify, work_out, Verified};

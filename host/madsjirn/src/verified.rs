@@ -18,11 +18,57 @@ use crate::refusal::Refusal;
 ///
 /// If the library's answer is none that the C interface allows, which the proved library never gives.
 pub fn verify(file: &[u8]) -> Result<Verified<'_>, Refusal> {
-    let answer = ffi::verify(file);
-    let (instructions, targets) = (answer.instructions, answer.targets);
+    accepted(ffi::verify(file), file)
+}
+
+/// Works out the claims of a module's direct targets, so that its builder need not, and judges it with them.
+///
+/// The claims that stand in `file` are ignored. If the module is accepted with those worked out, they are written over
+/// them, and no other byte changes; [`verify`] then accepts it too. Else the refusal leaves every byte as it was.
+/// Refusals are 1 to 7, where those claims break no rule, and then 8 to 13 but never 11.
+///
+/// ```
+/// use madsjirn::{verify, work_out, Rule};
+///
+/// # fn main() -> Result<(), madsjirn::Refusal> {
+/// let mut file = vec![0x01, 12, 0];
+/// for word in [0x2000_0000u32, 4096, 4] {
+///     file.extend(word.to_le_bytes()); // base, size, guard
+/// }
+/// file.extend([0x02, 4 * 8, 0]);
+/// file.extend([7, 1, 0, 0, 0, 0, 0, 0]); // 0 guard r1
+/// file.extend([10, 0, 1, 4, 0, 0, 0, 0]); // 1 load r0, r1, width 4, imm 0
+/// file.extend([4, 1, 0, 0, 4, 0, 0, 0]); // 2 addi r1, 4
+/// file.extend([12, 0, 0, 0, 1, 0, 0, 0]); // 3 jump 1
+/// file.extend([0x03, 2 * 68, 0]);
+/// for (index, kind) in [(0, 1), (1, 0)] {
+///     file.extend([index, 0, kind, 0]);
+///     file.extend([[0u32, u32::MAX]; 8].into_iter().flatten().flat_map(u32::to_le_bytes));
+/// }
+/// // Anything is claimed for r1 at index 1, and then the load may reach anywhere.
+/// assert_eq!(verify(&file).unwrap_err().rule, Rule::WildAccess);
+///
+/// let worked_out = work_out(&mut file)?;
+/// assert_eq!((worked_out.instructions(), worked_out.targets()), (4, 2));
+/// // Now r1 is claimed to lie in the region or just above it.
+/// assert_eq!(file[133..141], [0x00, 0x00, 0x00, 0x20, 0x00, 0x10, 0x00, 0x20]);
+/// assert!(verify(&file).is_ok());
+/// # Ok(())
+/// # }
+/// ```
+///
+/// # Panics
+///
+/// If the library's answer is none that the C interface allows, which the proved library never gives.
+pub fn work_out(file: &mut [u8]) -> Result<Verified<'_>, Refusal> {
+    accepted(ffi::work_out(file), file)
+}
+
+fn accepted(verdict: ffi::Verdict, file: &[u8]) -> Result<Verified<'_>, Refusal> {
+    let (instructions, targets) = (verdict.instructions, verdict.targets);
     judged(
-        answer.refusal,
-        answer.place,
+        verdict.refusal,
+        verdict.place,
         [instructions, targets] == [0; 2],
     )?;
     Ok(Verified {
@@ -74,7 +120,7 @@ pub fn verify(file: &[u8]) -> Result<Verified<'_>, Refusal> {
 /// # }
 /// ```
 ///
-/// Only [`verify`] makes one:
+/// Only [`verify`] and [`work_out`] make one:
 ///
 /// ```compile_fail,E0451
 /// let forged = madsjirn::Verified { file: b"no module", instructions: 1, targets: 1 };

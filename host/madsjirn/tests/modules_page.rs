@@ -9,7 +9,7 @@
 use std::fs;
 use std::path::Path;
 
-use madsjirn::{verify, Ending, Machine, Refusal, Rule, Run};
+use madsjirn::{verify, work_out, Ending, Machine, Refusal, Rule, Run};
 
 /// A file of the repository.
 fn bytes_of(path: &str) -> Vec<u8> {
@@ -71,6 +71,32 @@ fn runs_end_as_the_page_says() {
     assert_eq!(machine.registers[3], 0xFFFF_FFFD);
     let (run, _) = run_of(of_the_counted, &[]);
     assert_eq!((run.ending, run.steps), (Ending::Halted, 50));
+}
+
+/// With claims that no verifier accepts over those of the direct targets, every module of the page is accepted again.
+#[test]
+fn claims_are_worked_out() {
+    for (module, number) in judge_page(&page()).into_iter().zip(1..) {
+        let mut file = garbled(&module);
+        let answered = work_out(&mut file).map(|module| (module.instructions(), module.targets()));
+        let accepted = verify(&module).map(|module| (module.instructions(), module.targets()));
+        assert_eq!(answered, accepted, "module {number} of the page");
+        if number == 1 {
+            assert_eq!(file[133..141], [0, 0, 0, 0x20, 0, 0x10, 0, 0x20], "r1 in the loop's claim");
+        }
+    }
+}
+
+/// The file with FFFFFFFF hex to 0 for every register of each direct target.
+fn garbled(module: &[u8]) -> Vec<u8> {
+    let mut file = module.to_vec();
+    let code = usize::from(u16::from_le_bytes([file[16], file[17]]));
+    for target in file[21 + code..].chunks_exact_mut(68).filter(|target| target[2] == 0) {
+        for range in target[4..].chunks_exact_mut(8) {
+            range.copy_from_slice(&[0xFF, 0xFF, 0xFF, 0xFF, 0, 0, 0, 0]);
+        }
+    }
+    file
 }
 
 /// A run from pc 0 with every register 0 and some bytes at the beginning of a region of zeros, and the machine that it

@@ -61,14 +61,14 @@ pub fn jumpr(a: u8) -> Instruction {
 
 /// A module under construction. An instruction whose `imm` is to be a target's index
 /// is put with [`Assembler::put_to`] under the target's name, before or after that target stands.
-pub struct Assembler {
+pub struct Assembler<Name = &'static str> {
     module: Module,
-    names: Vec<(&'static str, u32)>,
-    open: Vec<(usize, &'static str)>,
+    names: Vec<(Name, u32)>,
+    open: Vec<(usize, Name)>,
 }
 
-impl Assembler {
-    pub fn new(layout: Layout) -> Assembler {
+impl<Name: Copy + PartialEq> Assembler<Name> {
+    pub fn new(layout: Layout) -> Self {
         let module = Module {
             layout,
             code: Vec::new(),
@@ -87,14 +87,14 @@ impl Assembler {
     }
 
     /// An indirect target here.
-    pub fn indirect(&mut self, name: &'static str) {
+    pub fn indirect(&mut self, name: Name) {
         self.names.push((name, self.here().into()));
         let target = Target::indirect(self.here());
         self.module.targets.push(target);
     }
 
     /// A direct target here, with its claim.
-    pub fn direct(&mut self, name: &'static str, claim: [Range; 8]) {
+    pub fn direct(&mut self, name: Name, claim: [Range; 8]) {
         self.names.push((name, self.here().into()));
         let target = Target::direct(self.here(), claim);
         self.module.targets.push(target);
@@ -105,7 +105,7 @@ impl Assembler {
     }
 
     /// An instruction whose `imm` is added to the index of the named target.
-    pub fn put_to(&mut self, instruction: Instruction, name: &'static str) {
+    pub fn put_to(&mut self, instruction: Instruction, name: Name) {
         self.open.push((self.module.code.len(), name));
         self.module.code.push(instruction);
     }

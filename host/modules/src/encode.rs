@@ -186,6 +186,11 @@ pub fn code_bounds(file: &[u8]) -> std::ops::Range<usize> {
     begin..begin + usize::from(length)
 }
 
+/// Where the targets stand in a file that no rule before 5 refuses: behind the instructions and a header.
+pub fn target_bounds(file: &[u8]) -> std::ops::Range<usize> {
+    code_bounds(file).end + 3..file.len()
+}
+
 fn put_field(file: &mut Vec<u8>, tag: u8, put_value: impl FnOnce(&mut Vec<u8>)) {
     let mut value = Vec::new();
     put_value(&mut value);

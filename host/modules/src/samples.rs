@@ -1,4 +1,5 @@
-//! Three accepted modules: document 01's loop, the largest module there can be, and a mixed one that never ends.
+//! Accepted modules: document 01's loop, the largest module there can be, a mixed one that never ends, and one whose
+//! claims take long to work out.
 
 use crate::assembler::*;
 use crate::encode::{claim, test, Instruction, Layout, Module, Target};
@@ -144,3 +145,42 @@ pub fn mixed() -> Module {
 
 /// Multiples of 32 below the region's size.
 const POINTER_BITS: u32 = 0xfe0;
+
+/// As large as there can be, and in 73 * 254 + 1 sweeps the slowest known to have its claims worked out: 73 for each
+/// target and one more would be the most. Every direct target claims anything here.
+pub fn slowest() -> Module {
+    ring(Layout::KNOWN, 255, 16)
+}
+
+/// So many direct targets, each of which jumps to the one below it, and the lowest to the highest, with so many
+/// instructions behind each but the lowest. What is new at one target takes a sweep to the next, and each time round
+/// only one register grows by one: r0 until it is anything, then r1, and so on.
+pub fn ring(layout: Layout, targets: usize, length: usize) -> Module {
+    let mut code = Assembler::new(layout);
+    code.indirect(0);
+    for register in 0..8 {
+        code.put(&[set(register, 0)]);
+    }
+    code.put_to(jump(0), targets);
+    code.direct(1, claim(&[]));
+    code.put(&[addi(0, 1)]);
+    for register in 1..8 {
+        code.put_to(edge(), targets);
+        // One is added only if the register before it is anything: else its highest bit is 0.
+        code.put(&[shr(register - 1, 31), add(register, register - 1)]);
+    }
+    code.put_to(jump(0), targets);
+    for target in 2..=targets {
+        code.direct(target, claim(&[]));
+        for _ in 1..length {
+            code.put_to(edge(), target - 1);
+        }
+        code.put_to(jump(0), target - 1);
+    }
+    code.finish()
+}
+
+/// A branch that cuts nothing, so that its two edges have the same ranges. No instruction takes longer in a sweep.
+fn edge() -> Instruction {
+    branch(0, 1, test::SIGNED_BELOW, 0)
+}

@@ -1,7 +1,7 @@
 //! The hand-written implementation.
 
 use crate::{ending, Machine, Ran, Read, Refused, Verdict};
-use handwritten::{Accepted, Ending, Module, Refusal};
+use handwritten::{Accepted, Ending, Module, Refusal, Sweeps};
 
 fn refused(refusal: Refusal) -> Refused {
     (refusal.number, refusal.place)
@@ -37,6 +37,16 @@ pub fn verify(file: &[u8]) -> Verdict {
 /// The verdict by rule N as it was before document 02's ticket 1: what the ticket turns is told by it.
 pub fn verify_by_earlier_rule_n(file: &[u8]) -> Verdict {
     verdict(handwritten::verify_by_earlier_rule_n(file))
+}
+
+#[inline]
+pub fn work_out(file: &mut [u8]) -> Verdict {
+    verdict(handwritten::work_out(file))
+}
+
+/// What the sweeps of `work_out` come to: the kinds of growth are told by it.
+pub fn sweeps(file: &[u8]) -> Result<Sweeps, Refused> {
+    handwritten::sweeps(file).map_err(refused)
 }
 
 #[inline]

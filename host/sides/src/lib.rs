@@ -4,7 +4,8 @@
 mod hand_written;
 mod proved;
 
-pub use hand_written::verify_by_earlier_rule_n;
+pub use hand_written::{sweeps, verify_by_earlier_rule_n};
+pub use handwritten::Sweeps;
 
 /// Number and place of a refusal.
 pub type Refused = (u32, u32);
@@ -70,6 +71,14 @@ impl Side {
         match self {
             Side::Proved => proved::verify(file),
             Side::HandWritten => hand_written::verify(file),
+        }
+    }
+
+    #[inline]
+    pub fn work_out(self, file: &mut [u8]) -> Verdict {
+        match self {
+            Side::Proved => proved::work_out(file),
+            Side::HandWritten => hand_written::work_out(file),
         }
     }
 

@@ -1,7 +1,7 @@
 //! The proved library, through its wrapper.
 
 use crate::{Machine, Ran, Read, Refused, Verdict};
-use madsjirn::{Layout, Refusal, Run};
+use madsjirn::{Layout, Refusal, Run, Verified};
 
 fn refused(refusal: Refusal) -> Refused {
     (refusal.rule.number(), refusal.place)
@@ -16,7 +16,17 @@ pub fn read(file: &[u8]) -> Read {
 
 #[inline]
 pub fn verify(file: &[u8]) -> Verdict {
-    let verified = madsjirn::verify(file).map_err(refused)?;
+    verdict(madsjirn::verify(file))
+}
+
+#[inline]
+pub fn work_out(file: &mut [u8]) -> Verdict {
+    verdict(madsjirn::work_out(file))
+}
+
+#[inline]
+fn verdict(verified: Result<Verified, Refusal>) -> Verdict {
+    let verified = verified.map_err(refused)?;
     Ok([verified.instructions(), verified.targets()])
 }
 

@@ -4,10 +4,10 @@ use Rattle.outcomes.proofs.cases.Statement.{statement}
 use Rattle.outcomes.proofs.cases.Tie as tie
 
 abbrev Inv-loop : tie.InvT-loop
-Inv-loop tally₀ seed₀ left₀ tally seed left = Unit {0}
+Inv-loop tally₀ worked₀ seed₀ other₀ left₀ tally worked seed other left = Unit {0}
 
 abbrev μ-loop : tie.MeasureT-loop
-μ-loop tally₀ seed₀ left₀ tally seed left = left
+μ-loop tally₀ worked₀ seed₀ other₀ left₀ tally worked seed other left = left
 
 pub cases-spec : {M : Type 1} → statement M
 cases-spec =
@@ -16,6 +16,7 @@ cases-spec =
     Inv-loop
     μ-loop
     (λ c. search needs)
+    (λ c κs. search needs)
     (λ c κs. search needs)
     (λ c. search needs)
     (λ c. search needs)

@@ -1,14 +1,17 @@
-//! Generated files: accepted ones, ones that break a rule by a hair, damaged ones, and ones whose verdict depends on
-//! document 02.
+//! Generated files: accepted ones, ones that break a rule by a hair, damaged ones, ones whose verdict depends on
+//! document 02, and ones whose claims are to be worked out.
 
 mod access;
 mod body;
 mod claims;
 mod damage;
+mod growing;
 mod near;
 mod shape;
 mod turned;
 mod valid;
+
+pub use growing::garbled_claim;
 
 use crate::encode::Module;
 use crate::random::Random;
@@ -30,10 +33,12 @@ pub enum Origin {
     EmptyB,
     /// Refused, and accepted if a load did not carry the sign up.
     Signed,
+    /// With garbled claims, and claims that grow when they are worked out.
+    Growing,
 }
 
 impl Origin {
-    pub const ALL: [Origin; 7] = [
+    pub const ALL: [Origin; 8] = [
         Origin::Valid,
         Origin::Near,
         Origin::Damaged,
@@ -41,6 +46,7 @@ impl Origin {
         Origin::EmptyN,
         Origin::EmptyB,
         Origin::Signed,
+        Origin::Growing,
     ];
 
     pub fn name(self) -> &'static str {
@@ -52,6 +58,7 @@ impl Origin {
             Origin::EmptyN => "empty N",
             Origin::EmptyB => "empty B",
             Origin::Signed => "signed",
+            Origin::Growing => "growing",
         }
     }
 
@@ -60,7 +67,7 @@ impl Origin {
         match self {
             Origin::Valid | Origin::Narrowed => Some(true),
             Origin::EmptyN | Origin::EmptyB | Origin::Signed => Some(false),
-            Origin::Near | Origin::Damaged => None,
+            Origin::Near | Origin::Damaged | Origin::Growing => None,
         }
     }
 
@@ -69,7 +76,7 @@ impl Origin {
         match self {
             Origin::Narrowed => Some(false),
             Origin::EmptyN | Origin::EmptyB => Some(true),
-            Origin::Valid | Origin::Near | Origin::Damaged | Origin::Signed => None,
+            _ => None,
         }
     }
 }
@@ -85,9 +92,10 @@ pub struct Generated {
 /// A file of any origin.
 pub fn generate(random: &mut Random) -> Generated {
     let origin = match random.below(100) {
-        0..=27 => Origin::Valid,
-        28..=72 => Origin::Near,
-        73..=91 => Origin::Damaged,
+        0..=25 => Origin::Valid,
+        26..=65 => Origin::Near,
+        66..=83 => Origin::Damaged,
+        84..=91 => Origin::Growing,
         92 | 93 => Origin::Narrowed,
         94 | 95 => Origin::EmptyN,
         96 | 97 => Origin::EmptyB,
@@ -99,7 +107,8 @@ pub fn generate(random: &mut Random) -> Generated {
 pub fn generate_from(origin: Origin, random: &mut Random) -> Generated {
     let mut module = match origin {
         Origin::Valid => valid::module(random),
-        Origin::Near | Origin::Damaged => accepted(random),
+        Origin::Near | Origin::Damaged => whole(random),
+        Origin::Growing => growing::module(random),
         Origin::Narrowed => turned::narrowed(random),
         Origin::EmptyN => turned::empty_n(random),
         Origin::EmptyB => turned::empty_b(random),
@@ -119,11 +128,11 @@ pub fn generate_from(origin: Origin, random: &mut Random) -> Generated {
     }
 }
 
-/// An accepted module, now and then one that rule N as it was refuses.
-fn accepted(random: &mut Random) -> Module {
-    if random.chance(8) {
-        turned::narrowed(random)
-    } else {
-        valid::module(random)
+/// An accepted module, now and then one that rule N as it was refuses, or one whose claims are to be worked out.
+fn whole(random: &mut Random) -> Module {
+    match random.below(100) {
+        0..=7 => turned::narrowed(random),
+        8..=15 => growing::module(random),
+        _ => valid::module(random),
     }
 }

@@ -17,6 +17,24 @@ pub fn verify(file: &[u8]) -> Verdict {
     common(Side::BOTH.map(|side| side.verify(file)))
 }
 
+/// Works out the claims on both sides, the first time on a copy. A refusal leaves every byte as it was; what is
+/// accepted is so by `verify`, and worked out again it stays as it is.
+pub fn work_out(file: &mut [u8]) -> Verdict {
+    let (before, mut copied) = (file.to_vec(), file.to_vec());
+    let handwritten = Side::HandWritten.work_out(&mut copied);
+    let proved = Side::Proved.work_out(file);
+    assert!(file == copied, "the bytes differ");
+    let answer = common([proved, handwritten]);
+    if answer.is_err() {
+        assert!(file == before, "a refusal changed the file");
+    } else {
+        assert_eq!(verify(file), answer);
+        let again = Side::BOTH.map(|side| side.work_out(&mut copied));
+        assert!(common(again) == answer && file == copied);
+    }
+    answer
+}
+
 /// The line that the gate program prints.
 pub fn line(verdict: Verdict) -> String {
     match verdict {

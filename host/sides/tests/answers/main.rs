@@ -1,5 +1,5 @@
 //! Exact answers, the same of both sides: document 01's known outcomes, what document 02's ticket 1 turns and what its
-//! ticket 2 adds, a file for each refusal, each ending, and the files that the gate program is tried on.
+//! tickets 2 and 3 add, a file for each refusal, each ending, and the files that the gate program is tried on.
 
 mod both;
 mod claims;
@@ -8,3 +8,4 @@ mod known;
 mod rule_n;
 mod runs;
 mod signed;
+mod work_out;

@@ -1,7 +1,7 @@
 -- `machine::access::write_one` meets its contract: by the law of writes. Assumes nothing.
 use borrow.Author.Needs.{needs}
 use native.Mathlib.Omega.{arith}
-use Rattle.machine.proofs.Reaching.{writes}
+use Rattle.words.proofs.Writes.{writes}
 use Rattle.machine.proofs.access.write_one.Statement.{statement}
 use Rattle.machine.proofs.access.write_one.Tie as tie
 

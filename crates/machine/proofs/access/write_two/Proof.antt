@@ -2,7 +2,7 @@
 use borrow.Author.Needs.{needs}
 use native.Mathlib.Omega.{arith}
 use lib.ListN.{length-set}
-use Rattle.machine.proofs.Reaching.{writes}
+use Rattle.words.proofs.Writes.{writes}
 use Rattle.machine.proofs.access.write_two.Statement.{statement}
 use Rattle.machine.proofs.access.write_two.Tie as tie
 

@@ -16,7 +16,7 @@ run-loaded-requires c κs =
 returns-2 : tie.Need-returns-2
 returns-2 c =
     let told = c .before .before in
-    let names = parsed-refuses _ _ (told .before .before .read .ensures) _ (told .parsed2 .given .1) in
+    let names = parsed-refuses _ _ _ (told .before .before .read .ensures) _ (told .parsed2 .given .1) in
     refused-post _ _ _ _ _ (c .refuse .result) (c .refuse .ensures) (unreadable _ _ _ _ _ names)
 
 pub run-spec : {M : Type 1} → statement M

@@ -13,7 +13,7 @@ unfolding faultOf ruleNumber
 no-pc c =
     let start = c .before .before .before .before .before in
     refused-post _ _ _ _ _ (c .refuse .result) (c .refuse .ensures)
-    (bad-pc _ _ _ _ (read-holds _ _ _ _ (start .pre)) (c .before .if1 .taken))
+    (bad-pc _ _ _ _ (read-holds _ _ _ _ _ (start .pre)) (c .before .if1 .taken))
 
 too-short : tie.Need-returns-2
 unfolding faultOf ruleNumber
@@ -21,7 +21,7 @@ too-short c =
     let inside = c .before .before .before in
     let start = inside .before .before .before .before in
     refused-post _ _ _ _ _ (c .refuse2 .result) (c .refuse2 .ensures)
-    (no-room _ _ _ _ (read-holds _ _ _ _ (start .pre)) (inside .if1 .left) (omega arith))
+    (no-room _ _ _ _ (read-holds _ _ _ _ _ (start .pre)) (inside .if1 .left) (omega arith))
 
 too-late : tie.Need-returns-3
 unfolding faultOf ruleNumber
@@ -29,7 +29,7 @@ too-late c =
     let inside = c .before .before .before .before in
     let start = inside .before .before .before .before in
     refused-post _ _ _ _ _ (c .refuse3 .result) (c .refuse3 .ensures)
-    (no-room _ _ _ _ (read-holds _ _ _ _ (start .pre)) (inside .if1 .left) (omega arith))
+    (no-room _ _ _ _ (read-holds _ _ _ _ _ (start .pre)) (inside .if1 .left) (omega arith))
 
 run-in-requires : tie.Need-run-in-requires
 run-in-requires c κs =
@@ -37,7 +37,7 @@ run-in-requires c κs =
     let coded = listed .before in
     let inside = coded .before .before .before .before in
     let start = inside .before .before .before .before in
-    part-ready _ (start .args .machine) _ _ (read-holds _ _ _ _ (start .pre)) (inside .if1 .left) (omega arith)
+    part-ready _ (start .args .machine) _ _ (read-holds _ _ _ _ _ (start .pre)) (inside .if1 .left) (omega arith)
     (coded .code-in .ensures .bytes) (listed .targets-in .ensures .bytes)
 
 ran : tie.Need-returns-4
@@ -47,7 +47,7 @@ ran c =
     let roomy = coded .before in
     let inside = roomy .before .before .before in
     let start = inside .before .before .before .before in
-    ran-post _ (start .args .machine) _ _ (read-holds _ _ _ _ (start .pre)) (inside .if1 .left)
+    ran-post _ (start .args .machine) _ _ (read-holds _ _ _ _ _ (start .pre)) (inside .if1 .left)
     (omega (arith, roomy .before .if2 .left, roomy .if3 .left))
     (coded .code-in .ensures .bytes) (listed .targets-in .ensures .bytes) _ _ _ (c .before .before .run-in .ensures)
 

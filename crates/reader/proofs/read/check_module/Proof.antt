@@ -7,6 +7,7 @@ use Rattle.model.specs.Obligations.{firstFault}
 use Rattle.model.specs.File.{targetRules}
 use Rattle.model.proofs.Tests.{test-fails, test-passes}
 use Rattle.reader.specs.Findings.{faultIn}
+use Rattle.reader.specs.Readings.{asked}
 use Rattle.reader.proofs.Checking.{met-names, unmet-names, layout-refused, instruction-refused, targets-left}
 use Rattle.reader.proofs.read.check_module.Statement.{statement}
 use Rattle.reader.proofs.read.check_module.Tie as tie
@@ -16,7 +17,7 @@ unfolding ruleNumber
 returns c =
     let judged = c .before .before in
     let entry = judged .before .before .before .args in
-    c .unmet .ensures ∙ layout-refused _ (entry .code .now) (entry .targets .now) (test-fails (judged .is-layout .ensures) (c .before .if1 .taken))
+    c .unmet .ensures ∙ layout-refused (entry .claims) _ (entry .code .now) (entry .targets .now) (test-fails (judged .is-layout .ensures) (c .before .if1 .taken))
 
 returns-2 : tie.Need-returns-2
 returns-2 c =
@@ -25,8 +26,8 @@ returns-2 c =
     let judged = layout .before in
     let entry = judged .before .before .before in
     c .check-targets .ensures
-    ∙ ap (λ (m : ℕ). firstFault (targetRules m (entry .args .targets .now))) (entry .pre .0)
-    ∙ targets-left _ (entry .args .code .now) (entry .args .targets .now) (test-passes (judged .is-layout .ensures) (layout .if1 .left))
+    ∙ ap (λ (m : ℕ). firstFault (targetRules (asked (entry .args .claims) m (entry .args .targets .now)) (entry .args .targets .now))) (entry .pre .0)
+    ∙ targets-left (entry .args .claims) _ (entry .args .code .now) (entry .args .targets .now) (test-passes (judged .is-layout .ensures) (layout .if1 .left))
     (met-names (checked .check-instructions .ensures) (c .before .enum-told .given .1))
 
 returns-3 : tie.Need-returns-3
@@ -35,7 +36,7 @@ returns-3 c =
     let checked = c .before .before .before in
     let layout = checked .before in
     let entry = layout .before .before .before .before .args in
-    instruction-refused _ (entry .code .now) (entry .targets .now) (test-passes (layout .before .is-layout .ensures) (layout .if1 .left)) _
+    instruction-refused (entry .claims) _ (entry .code .now) (entry .targets .now) (test-passes (layout .before .is-layout .ensures) (layout .if1 .left)) _
     (unmet-names (checked .check-instructions .ensures) _ (c .before .instructions .given .1))
 
 pub check-module-spec : {M : Type 1} → statement M

@@ -4,18 +4,18 @@ use Prim.Native.Nat.{_-_}
 use mathlib.Core.Path.{ap, _∙_}
 use native.Mathlib.Omega.{arith}
 use Rattle.model.specs.Answers.{ruleNumber}
-use Rattle.model.specs.File.{isGoodTarget}
 use Rattle.model.proofs.Tests.{test-fails, test-passes}
 use Rattle.reader.specs.Findings.{faultIn}
+use Rattle.reader.specs.Readings.{asked}
 use Rattle.reader.proofs.Checking.{faultBelow, Judges, indexes-begin, index-fails, index-passes, indexes-pass}
 use Rattle.reader.proofs.read.check_targets.Statement.{statement}
 use Rattle.reader.proofs.read.check_targets.Tie as tie
 
 abbrev Inv-loop : tie.InvT-loop
-Inv-loop n targets k j₀ j = Judges 7 (isGoodTarget n targets) k j
+Inv-loop n targets k claims j₀ j = Judges 7 (asked claims n targets) k j
 
 abbrev μ-loop : tie.MeasureT-loop
-μ-loop n targets k j₀ j = k - j
+μ-loop n targets k claims j₀ j = k - j
 
 loop-holds : tie.Need-loop-holds Inv-loop μ-loop
 loop-holds c = indexes-begin 7 _ _

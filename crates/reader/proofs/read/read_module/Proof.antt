@@ -21,7 +21,7 @@ returns : tie.Need-returns
 unfolding ruleNumber
 returns c =
     let end = c .before .before in
-    c .refusal-of .ensures ∙ bytes-left _ (end .before .before .before .pre) (end-is end) (c .before .if1 .taken)
+    c .refusal-of .ensures ∙ bytes-left (end .before .before .before .args .claims) _ (end .before .before .before .pre) (end-is end) (c .before .if1 .taken)
 
 lengths-fit : (c : tie.After-targets-in) →
     (length (c .before .code-in .result .now) < 2 ^ 16) × (length (c .targets-in .result .now) < 2 ^ 16)
@@ -36,8 +36,8 @@ lengths-fit c =
 judged : (c : tie.After-check-module) →
     let code = c .before .before in
     let layout = code .before in
-    let file = layout .before .before .before .before .before .before .args .file .now in
-    Judged file (layout .layout-of .result) (code .code-in .result .now) (c .before .targets-in .result .now) (c .check-module .result)
+    let entry = layout .before .before .before .before .before .before .args in
+    Judged (entry .claims) (entry .file .now) (layout .layout-of .result) (code .code-in .result .now) (c .before .targets-in .result .now) (c .check-module .result)
 judged c =
     let code = c .before .before in
     let layout = code .before in
@@ -48,7 +48,7 @@ judged c =
       is-code = code .code-in .ensures .bytes;
       is-targets = c .before .targets-in .ensures .bytes;
       found = c .check-module .ensures;
-      left = only-module _ (end .before .before .before .pre) (end-is end) (ends .if1 .left);
+      left = only-module (end .before .before .before .args .claims) _ (end .before .before .before .pre) (end-is end) (ends .if1 .left);
     }
 
 returns-2 : tie.Need-returns-2

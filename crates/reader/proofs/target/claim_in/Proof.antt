@@ -2,7 +2,8 @@
 use Prim.Native.Nat.{_+_, _*_}
 use lib.Dec.{lit<}
 use Rattle.model.specs.Words.{readBytes}
-use Rattle.reader.proofs.Targets.{eight-entries, claim-is}
+use Rattle.model.proofs.Tabulate.{eight-entries}
+use Rattle.reader.proofs.Targets.{claim-is}
 use Rattle.reader.proofs.target.claim_in.Statement.{statement}
 use Rattle.reader.proofs.target.claim_in.Tie as tie
 

@@ -5,10 +5,10 @@ use Rattle.reference.proofs.load.unsound.Statement.{statement}
 use Rattle.reference.proofs.load.unsound.Tie as tie
 
 abbrev Inv-loop : tie.InvT-loop
-Inv-loop file n k j₀ j = j ≤ k
+Inv-loop file n k free j₀ j = j ≤ k
 
 abbrev μ-loop : tie.MeasureT-loop
-μ-loop file n k j₀ j = k - j
+μ-loop file n k free j₀ j = k - j
 
 pub unsound-spec : {M : Type 1} → statement M
 unsound-spec =

@@ -21,6 +21,7 @@ use Rattle.reader.specs.Lookups.{targetFound}
 use Rattle.verifier.specs.Standing.{targetNamed}
 use Rattle.verifier.proofs.Order.{unreachable, unchecked-jump, wild-access, no-target, falls-off, broken-taken-claim, all-kept}
 use Rattle.reader.proofs.Fetching.{program-count}
+use Rattle.verifier.proofs.ByRule.{named-target}
 use Rattle.verifier.proofs.rules.check_at.Statement.{statement}
 use Rattle.verifier.proofs.rules.check_at.Tie as tie
 
@@ -88,7 +89,7 @@ named : (c : tie.After-target-named) → let s = start-10 (c .before) in
     targetFound (now (s .args .targets)) (c .target-named .result) ≡ targetNamed (program s .targets) (traitsAt (program s) (s .args .i) .names)
 named c =
     let s = start-10 (c .before) in
-    c .target-named .ensures _ _ _ (s .pre .loaded)
+    named-target (s .pre .loaded) (traits (shape (s .args .instruction)) .names) _ (c .target-named .ensures)
     ∙ ap (λ (x : Instruction). targetNamed (program s .targets) (traits (shape x) .names)) (s .pre .is-instruction)
 
 says-8 : (c : tie.After-jumps-to-target) → Says jumpsToTarget (start-10 (c .before .before)) (c .jumps-to-target .result)

@@ -69,7 +69,7 @@ left : (c : Gone) → let told = c .before .before .before .before .before .befo
 left c =
     let l = loop-of (c .before .before .before .before .before .before .before .before) in
     record {
-      is-region = l .before .before .before .region-of .ensures;
+      is-region = l .before .before .before .region-of .ensures (start l .pre .kept .layout);
       goes = c .before .before .after-next .ensures;
       is-number = c .before .number-after .ensures;
       is-there = c .target-at2 .ensures;
@@ -114,7 +114,7 @@ check-code-spec =
     (tie.spec
     Inv-loop
     μ-loop
-    (λ c κs. c .before .before .pre .kept .layout)
+    (λ c κs. tt)
     (λ c κs. tt)
     (λ c κs. tt)
     loop-holds

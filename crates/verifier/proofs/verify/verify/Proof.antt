@@ -1,4 +1,5 @@
 -- `verifier::verify::verify` meets its contract: the refusal of the reader, or what the check of the code finds. Assumes nothing.
+use mathlib.Core.Bool.{true}
 use denote.Ref.{now}
 use Rattle.reader.specs.declared.read.Reading.{Reading}
 use Rattle.reader.proofs.Passes.{ReadFacts, parsed-holds, parsed-refuses}
@@ -8,8 +9,8 @@ use Rattle.verifier.proofs.verify.verify.Tie as tie
 
 -- what was read
 facts : (c : tie.After-parsed) → let r : Reading = c .parsed .given .0 .0 in
-    ReadFacts (now (c .before .before .before .before .args .file)) (r .layout) (r .instructions) (r .targets)
-facts c = parsed-holds _ _ (c .before .before .read .ensures) _ (c .parsed .given .1)
+    ReadFacts true (now (c .before .before .before .before .args .file)) (r .layout) (r .instructions) (r .targets)
+facts c = parsed-holds _ _ _ (c .before .before .read .ensures) _ (c .parsed .given .1)
 
 check-code-requires : tie.Need-check-code-requires
 check-code-requires c κs =
@@ -32,7 +33,7 @@ on-code-refused c =
 
 on-unreadable : tie.Need-returns-3
 on-unreadable c =
-    unreadable _ _ (parsed-refuses _ _ (c .before .before .before .read .ensures) _ (c .before .parsed2 .given .1))
+    unreadable _ _ (parsed-refuses _ _ _ (c .before .before .before .read .ensures) _ (c .before .parsed2 .given .1))
 
 pub verify-spec : {M : Type 1} → statement M
 verify-spec =

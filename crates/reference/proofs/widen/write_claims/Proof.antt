@@ -1,20 +1,20 @@
--- `reference::load::copy_claims` is safe and ends: the entry is at most all of them, the claims keep their length, and the measure is what is left. Assumes nothing.
+-- `reference::widen::write_claims` is safe and ends: the entry is at most all of them, the file keeps its length, and the measure is what is left. Assumes nothing.
 use mathlib.Core.Path.{_≡_}
 use Prim.Native.Nat.{_≤_, _-_}
 use lib.ListN.{length}
 use native.Mathlib.Omega.{arith}
 use borrow.Author.Needs.{needs}
-use Rattle.reference.proofs.load.copy_claims.Statement.{statement}
-use Rattle.reference.proofs.load.copy_claims.Tie as tie
+use Rattle.reference.proofs.widen.write_claims.Statement.{statement}
+use Rattle.reference.proofs.widen.write_claims.Tie as tie
 
 abbrev Inv-loop : tie.InvT-loop
-Inv-loop file n k claims₀ all t₀ claims t = (t ≤ all) × (length claims ≡ length claims₀)
+Inv-loop file₀ n k claims all t₀ file t = (t ≤ all) × (length file ≡ length file₀)
 
 abbrev μ-loop : tie.MeasureT-loop
-μ-loop file n k claims₀ all t₀ claims t = all - t
+μ-loop file₀ n k claims all t₀ file t = all - t
 
-pub copy-claims-spec : {M : Type 1} → statement M
-copy-claims-spec =
+pub write-claims-spec : {M : Type 1} → statement M
+write-claims-spec =
     tie.close
     (tie.spec
     Inv-loop

@@ -1,0 +1,11 @@
+pub mod Growing
+pub mod Placing
+pub mod Searching
+pub mod Filling
+pub mod Arriving
+pub mod Giving
+pub mod Visiting
+pub mod Sweeping
+pub mod Going
+pub mod Exchanging
+pub mod Finishing

@@ -1,0 +1,19 @@
+-- Document 02, ticket 3: what is proved of the claims that are worked out. Assumes nothing.
+pub mod Each
+pub mod Sums
+pub mod Bounds
+pub mod Entries
+pub mod Widening
+pub mod Tables
+pub mod Sweeping
+pub mod Ending
+pub mod Still
+pub mod Unbroken
+pub mod Independent
+pub mod OneClaim
+pub mod AllClaims
+pub mod Exchanged
+pub mod FromFile
+pub mod Claimed
+pub mod Finished
+pub mod Answering
