@@ -6,6 +6,8 @@ use mathlib.Core.List.{List, [], map}
 use mathlib.Core.Option.{Option, none, some}
 use lib.Dec.{eqb}
 use lib.ListN.{length, getD, set}
+use denote.Ref.{RefT, now}
+use denote.Triple.Both.{Both}
 use Rattle.model.specs.File.{mostTargets, tabulate, targetIndex, targetKind}
 use Rattle.model.specs.declared.Ranges.{Ranges}
 use Rattle.model.specs.Claims.{Entry, Table, arrive, Sweep, counted, given}
@@ -22,6 +24,19 @@ pub record Rows : Type 0 where
 
 abbrev pub rows : List Bool → List (List ℕ) → List (List ℕ) → List (List ℕ) → List (List Bool) → Rows
 rows reached lows highs grown grows = record { reached = reached; lows = lows; highs = highs; grown = grown; grows = grows }
+
+-- those of five lent arrays; and as a function finds them and leaves them
+abbrev pub rowsNow : RefT (List Bool) → RefT (List (List ℕ)) → RefT (List (List ℕ)) → RefT (List (List ℕ)) → RefT (List (List Bool)) → Rows
+rowsNow reached lows highs grown grows = rows (now reached) (now lows) (now highs) (now grown) (now grows)
+
+abbrev pub Lent : Type 0 → Type 0
+Lent X = Both (RefT X) (RefT X)
+
+abbrev pub rowsBefore : Lent (List Bool) → Lent (List (List ℕ)) → Lent (List (List ℕ)) → Lent (List (List ℕ)) → Lent (List (List Bool)) → Rows
+rowsBefore reached lows highs grown grows = rowsNow (reached .entry) (lows .entry) (highs .entry) (grown .entry) (grows .entry)
+
+abbrev pub rowsAfter : Lent (List Bool) → Lent (List (List ℕ)) → Lent (List (List ℕ)) → Lent (List (List ℕ)) → Lent (List (List Bool)) → Rows
+rowsAfter reached lows highs grown grows = rowsNow (reached .exit) (lows .exit) (highs .exit) (grown .exit) (grows .exit)
 
 -- each has a place for as many targets as a module can have
 pub record Whole (t : Rows) : Type 0 where

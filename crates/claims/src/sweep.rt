@@ -28,7 +28,7 @@ ghost use Rattle.reader.specs.declared.lookup.Lookup.the-variants.{At};
 ghost use Rattle.reader.specs.Lookups.{Rising, FindsNamed};
 ghost use Rattle.reader.specs.Readings.{Loaded};
 ghost use Rattle.claims.specs.Rows.{FewGrown};
-ghost use Rattle.claims.specs.Tables.{rows, rowAt, Whole, entriesIn, tableIn, sweepIn, along, Gives, Follows};
+ghost use Rattle.claims.specs.Tables.{rowsNow, rowsBefore, rowsAfter, rowAt, Whole, entriesIn, tableIn, sweepIn, along, Gives, Follows};
 
 // "Open doors are reached with their fixed claim; inner ones begin unreached.", of the first k targets.
 pub(crate) fn begin(
@@ -40,8 +40,8 @@ pub(crate) fn begin(
     grown: &mut [[u8; 8]; ROWS],
     grows: &mut [[bool; 8]; ROWS],
 )
-    requires { ⌜ (k ≤ 256) × Whole (rows (now reached) (now lows) (now highs) (now grown) (now grows)) ⌝ }
-    ensures { λ r. ⌜ Whole (rows (now (reached .exit)) (now (lows .exit)) (now (highs .exit)) (now (grown .exit)) (now (grows .exit))) × ((l : Layout) (code : List ℕ) (n : ℕ) → Loaded l code (now (targets .entry)) n k → entriesIn (now (targets .entry)) k (rows (now (reached .exit)) (now (lows .exit)) (now (highs .exit)) (now (grown .exit)) (now (grows .exit))) ≡ map begun (programOf l code (now (targets .entry)) .targets)) ⌝ }
+    requires { ⌜ (k ≤ 256) × Whole (rowsNow reached lows highs grown grows) ⌝ }
+    ensures { λ r. ⌜ Whole (rowsAfter reached lows highs grown grows) × ((l : Layout) (code : List ℕ) (n : ℕ) → Loaded l code (now (targets .entry)) n k → entriesIn (now (targets .entry)) k (rowsAfter reached lows highs grown grows) ≡ map begun (programOf l code (now (targets .entry)) .targets)) ⌝ }
 {
     let mut j: u32 = 0;
     while j < k {
@@ -63,8 +63,8 @@ fn arrive(
     grown: &mut [[u8; 8]; ROWS],
     grows: &mut [[bool; 8]; ROWS],
 ) -> bool
-    requires { ⌜ ((j : ℕ) → there ≡ At j → j < 256) × Whole (rows (now reached) (now lows) (now highs) (now grown) (now grows)) ⌝ }
-    ensures { λ r. ⌜ Whole (rows (now (reached .exit)) (now (lows .exit)) (now (highs .exit)) (now (grown .exit)) (now (grows .exit))) × ((k : ℕ) (to : Option ℕ) → Rising (now (targets .entry)) k → FindsNamed (now (targets .entry)) k to there → tableIn (now (targets .entry)) k (rows (now (reached .exit)) (now (lows .exit)) (now (highs .exit)) (now (grown .exit)) (now (grows .exit))) r ≡ along to ranges (tableIn (now (targets .entry)) k (rows (now (reached .entry)) (now (lows .entry)) (now (highs .entry)) (now (grown .entry)) (now (grows .entry))) changed)) ⌝ }
+    requires { ⌜ ((j : ℕ) → there ≡ At j → j < 256) × Whole (rowsNow reached lows highs grown grows) ⌝ }
+    ensures { λ r. ⌜ Whole (rowsAfter reached lows highs grown grows) × ((k : ℕ) (to : Option ℕ) → Rising (now (targets .entry)) k → FindsNamed (now (targets .entry)) k to there → tableIn (now (targets .entry)) k (rowsAfter reached lows highs grown grows) r ≡ along to ranges (tableIn (now (targets .entry)) k (rowsBefore reached lows highs grown grows) changed)) ⌝ }
 {
     match there {
         Lookup::At { number } => {
@@ -103,8 +103,8 @@ fn visit(
     grown: &mut [[u8; 8]; ROWS],
     grows: &mut [[bool; 8]; ROWS],
 ) -> Passed
-    requires { ⌜ (i < 4096) × (k ≤ 256) × Whole (rows (now reached) (now lows) (now highs) (now grown) (now grows)) ⌝ }
-    ensures { λ r. ⌜ Whole (rows (now (reached .exit)) (now (lows .exit)) (now (highs .exit)) (now (grown .exit)) (now (grows .exit))) × ((p : Program) → instruction ≡ codeAt p i → region ≡ regionRange (p .layout) → Rising (now (targets .entry)) k → sweepIn (now (targets .entry)) k (r .onward) (r .known) (rows (now (reached .exit)) (now (lows .exit)) (now (highs .exit)) (now (grown .exit)) (now (grows .exit))) (r .changed) ≡ visit p i (some known) (tableIn (now (targets .entry)) k (rows (now (reached .entry)) (now (lows .entry)) (now (highs .entry)) (now (grown .entry)) (now (grows .entry))) changed)) ⌝ }
+    requires { ⌜ (i < 4096) × (k ≤ 256) × Whole (rowsNow reached lows highs grown grows) ⌝ }
+    ensures { λ r. ⌜ Whole (rowsAfter reached lows highs grown grows) × ((p : Program) → instruction ≡ codeAt p i → region ≡ regionRange (p .layout) → Rising (now (targets .entry)) k → sweepIn (now (targets .entry)) k (r .onward) (r .known) (rowsAfter reached lows highs grown grows) (r .changed) ≡ visit p i (some known) (tableIn (now (targets .entry)) k (rowsBefore reached lows highs grown grows) changed)) ⌝ }
 {
     let named = rules::target_named(targets, k, instruction);
     let taken = arrive(
@@ -158,8 +158,8 @@ fn sweep(
     grown: &mut [[u8; 8]; ROWS],
     grows: &mut [[bool; 8]; ROWS],
 ) -> bool
-    requires { ⌜ Loaded layout (now code) (now targets) n k × Whole (rows (now reached) (now lows) (now highs) (now grown) (now grows)) ⌝ }
-    ensures { λ r. ⌜ Whole (rows (now (reached .exit)) (now (lows .exit)) (now (highs .exit)) (now (grown .exit)) (now (grows .exit))) × (tableIn (now (targets .entry)) k (rows (now (reached .exit)) (now (lows .exit)) (now (highs .exit)) (now (grown .exit)) (now (grows .exit))) r ≡ swept (codeOf (programOf layout (now (code .entry)) (now (targets .entry)))) (entriesIn (now (targets .entry)) k (rows (now (reached .entry)) (now (lows .entry)) (now (highs .entry)) (now (grown .entry)) (now (grows .entry))))) ⌝ }
+    requires { ⌜ Loaded layout (now code) (now targets) n k × Whole (rowsNow reached lows highs grown grows) ⌝ }
+    ensures { λ r. ⌜ Whole (rowsAfter reached lows highs grown grows) × (tableIn (now (targets .entry)) k (rowsAfter reached lows highs grown grows) r ≡ swept (codeOf (programOf layout (now (code .entry)) (now (targets .entry)))) (entriesIn (now (targets .entry)) k (rowsBefore reached lows highs grown grows))) ⌝ }
 {
     let region = verify::region_of(layout);
     // What is known, if anything is; "starting with anything".
@@ -208,8 +208,8 @@ fn count_growth(
     grown: &mut [[u8; 8]; ROWS],
     grows: &mut [[bool; 8]; ROWS],
 )
-    requires { ⌜ (k ≤ 256) × Whole (rows (now reached) (now lows) (now highs) (now grown) (now grows)) × ((j : ℕ) → j < k → FewGrown (rowAt (rows (now reached) (now lows) (now highs) (now grown) (now grows)) j .grown)) ⌝ }
-    ensures { λ r. ⌜ Whole (rows (now (reached .exit)) (now (lows .exit)) (now (highs .exit)) (now (grown .exit)) (now (grows .exit))) × ((targets : List ℕ) → entriesIn targets k (rows (now (reached .exit)) (now (lows .exit)) (now (highs .exit)) (now (grown .exit)) (now (grows .exit))) ≡ map counted (entriesIn targets k (rows (now (reached .entry)) (now (lows .entry)) (now (highs .entry)) (now (grown .entry)) (now (grows .entry))))) ⌝ }
+    requires { ⌜ (k ≤ 256) × Whole (rowsNow reached lows highs grown grows) × ((j : ℕ) → j < k → FewGrown (rowAt (rowsNow reached lows highs grown grows) j .grown)) ⌝ }
+    ensures { λ r. ⌜ Whole (rowsAfter reached lows highs grown grows) × ((targets : List ℕ) → entriesIn targets k (rowsAfter reached lows highs grown grows) ≡ map counted (entriesIn targets k (rowsBefore reached lows highs grown grows))) ⌝ }
 {
     let mut j: u32 = 0;
     while j < k {
@@ -228,8 +228,8 @@ fn give_lowest(
     grown: &mut [[u8; 8]; ROWS],
     grows: &mut [[bool; 8]; ROWS],
 ) -> bool
-    requires { ⌜ (k ≤ 256) × Whole (rows (now reached) (now lows) (now highs) (now grown) (now grows)) ⌝ }
-    ensures { λ r. ⌜ Whole (rows (now (reached .exit)) (now (lows .exit)) (now (highs .exit)) (now (grown .exit)) (now (grows .exit))) × ((targets : List ℕ) → Gives targets k (rows (now (reached .entry)) (now (lows .entry)) (now (highs .entry)) (now (grown .entry)) (now (grows .entry))) (rows (now (reached .exit)) (now (lows .exit)) (now (highs .exit)) (now (grown .exit)) (now (grows .exit))) r) ⌝ }
+    requires { ⌜ (k ≤ 256) × Whole (rowsNow reached lows highs grown grows) ⌝ }
+    ensures { λ r. ⌜ Whole (rowsAfter reached lows highs grown grows) × ((targets : List ℕ) → Gives targets k (rowsBefore reached lows highs grown grows) (rowsAfter reached lows highs grown grows) r) ⌝ }
 {
     let mut j: u32 = 0;
     while j < k {
@@ -260,8 +260,8 @@ fn goes_on(
     grown: &mut [[u8; 8]; ROWS],
     grows: &mut [[bool; 8]; ROWS],
 ) -> bool
-    requires { ⌜ (k ≤ 256) × Whole (rows (now reached) (now lows) (now highs) (now grown) (now grows)) × ((j : ℕ) → j < k → FewGrown (rowAt (rows (now reached) (now lows) (now highs) (now grown) (now grows)) j .grown)) ⌝ }
-    ensures { λ r. ⌜ Whole (rows (now (reached .exit)) (now (lows .exit)) (now (highs .exit)) (now (grown .exit)) (now (grows .exit))) × ((targets : List ℕ) → Follows targets k changed (rows (now (reached .entry)) (now (lows .entry)) (now (highs .entry)) (now (grown .entry)) (now (grows .entry))) (rows (now (reached .exit)) (now (lows .exit)) (now (highs .exit)) (now (grown .exit)) (now (grows .exit))) r) ⌝ }
+    requires { ⌜ (k ≤ 256) × Whole (rowsNow reached lows highs grown grows) × ((j : ℕ) → j < k → FewGrown (rowAt (rowsNow reached lows highs grown grows) j .grown)) ⌝ }
+    ensures { λ r. ⌜ Whole (rowsAfter reached lows highs grown grows) × ((targets : List ℕ) → Follows targets k changed (rowsBefore reached lows highs grown grows) (rowsAfter reached lows highs grown grows) r) ⌝ }
 {
     if changed {
         count_growth(k, reached, lows, highs, grown, grows);
@@ -283,8 +283,8 @@ pub(crate) fn sweep_all(
     grown: &mut [[u8; 8]; ROWS],
     grows: &mut [[bool; 8]; ROWS],
 )
-    requires { ⌜ Loaded layout (now code) (now targets) n k × AreBytes (now code) × Whole (rows (now reached) (now lows) (now highs) (now grown) (now grows)) × (entriesIn (now targets) k (rows (now reached) (now lows) (now highs) (now grown) (now grows)) ≡ map begun (programOf layout (now code) (now targets) .targets)) ⌝ }
-    ensures { λ r. ⌜ Whole (rows (now (reached .exit)) (now (lows .exit)) (now (highs .exit)) (now (grown .exit)) (now (grows .exit))) × (entriesIn (now (targets .entry)) k (rows (now (reached .exit)) (now (lows .exit)) (now (highs .exit)) (now (grown .exit)) (now (grows .exit))) ≡ workedOut (programOf layout (now (code .entry)) (now (targets .entry))) .entries) ⌝ }
+    requires { ⌜ Loaded layout (now code) (now targets) n k × AreBytes (now code) × Whole (rowsNow reached lows highs grown grows) × (entriesIn (now targets) k (rowsNow reached lows highs grown grows) ≡ map begun (programOf layout (now code) (now targets) .targets)) ⌝ }
+    ensures { λ r. ⌜ Whole (rowsAfter reached lows highs grown grows) × (entriesIn (now (targets .entry)) k (rowsAfter reached lows highs grown grows) ≡ workedOut (programOf layout (now (code .entry)) (now (targets .entry))) .entries) ⌝ }
 {
     let mut going = true;
     while going {

@@ -5,7 +5,7 @@ use crate::entry::Row;
 use model::Ranges;
 ghost use mathlib.Core.Path.{_≡_};
 ghost use Prim.Native.Nat.{_<_};
-ghost use Rattle.claims.specs.Tables.{rows, rowAt, putRow};
+ghost use Rattle.claims.specs.Tables.{rowsBefore, rowsAfter, rowAt, putRow};
 
 // As many as a module can have targets.
 pub(crate) const ROWS: usize = 256;
@@ -20,7 +20,7 @@ pub(crate) fn row_at(
     number: u32,
 ) -> Row
     requires { ⌜ number < 256 ⌝ }
-    ensures { λ r. ⌜ r ≡ rowAt (rows (now (reached .entry)) (now (lows .entry)) (now (highs .entry)) (now (grown .entry)) (now (grows .entry))) number ⌝ }
+    ensures { λ r. ⌜ r ≡ rowAt (rowsBefore reached lows highs grown grows) number ⌝ }
 {
     let j = number as usize;
     let claim = Ranges {
@@ -46,7 +46,7 @@ pub(crate) fn put_row(
     row: Row,
 )
     requires { ⌜ number < 256 ⌝ }
-    ensures { λ r. ⌜ rows (now (reached .exit)) (now (lows .exit)) (now (highs .exit)) (now (grown .exit)) (now (grows .exit)) ≡ putRow (rows (now (reached .entry)) (now (lows .entry)) (now (highs .entry)) (now (grown .entry)) (now (grows .entry))) number row ⌝ }
+    ensures { λ r. ⌜ rowsAfter reached lows highs grown grows ≡ putRow (rowsBefore reached lows highs grown grows) number row ⌝ }
 {
     let j = number as usize;
     let claim = row.claim;

@@ -14,7 +14,7 @@ ghost use Rattle.model.specs.Answers.{judgementOf};
 ghost use Rattle.model.specs.File.{codeIn, targetsIn, programOf};
 ghost use Rattle.model.specs.Claims.{workedOut, workOut};
 ghost use Rattle.reader.specs.Readings.{Loaded, holds, readingBy};
-ghost use Rattle.claims.specs.Tables.{rows, Whole, entriesIn};
+ghost use Rattle.claims.specs.Tables.{rowsNow, rowsAfter, Whole, entriesIn};
 
 // The sweeps over a file's code, from the claims that the first targets begin with.
 fn sweep_file(
@@ -28,8 +28,8 @@ fn sweep_file(
     grown: &mut [[u8; 8]; ROWS],
     grows: &mut [[bool; 8]; ROWS],
 )
-    requires { ⌜ Loaded layout (codeIn (now file)) (targetsIn (now file)) n k × Whole (rows (now reached) (now lows) (now highs) (now grown) (now grows)) ⌝ }
-    ensures { λ r. ⌜ Whole (rows (now (reached .exit)) (now (lows .exit)) (now (highs .exit)) (now (grown .exit)) (now (grows .exit))) × (entriesIn (targetsIn (now (file .entry))) k (rows (now (reached .exit)) (now (lows .exit)) (now (highs .exit)) (now (grown .exit)) (now (grows .exit))) ≡ workedOut (programOf layout (codeIn (now (file .entry))) (targetsIn (now (file .entry)))) .entries) ⌝ }
+    requires { ⌜ Loaded layout (codeIn (now file)) (targetsIn (now file)) n k × Whole (rowsNow reached lows highs grown grows) ⌝ }
+    ensures { λ r. ⌜ Whole (rowsAfter reached lows highs grown grows) × (entriesIn (targetsIn (now (file .entry))) k (rowsAfter reached lows highs grown grows) ≡ workedOut (programOf layout (codeIn (now (file .entry))) (targetsIn (now (file .entry)))) .entries) ⌝ }
 {
     let targets = read::targets_in(file);
     sweep::begin(targets, k, reached, lows, highs, grown, grows);

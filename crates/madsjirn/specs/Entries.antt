@@ -1,5 +1,6 @@
 -- Demand 3 for whatever a host calls: runs and steps by value, over a lent machine and exported, in any mixture, each by its own
--- contract, of a module that either verifier accepted, with its own claims or with claims that were worked out. Proved in proofs/Entries. Assumes nothing.
+-- contract, of a module that either verifier accepted, with its own claims or with claims that were worked out. Proved in
+-- proofs/Entries. Assumes nothing.
 use Prim.Native.Nat.{ℕ, _<_}
 use mathlib.Core.Path.{_≡_}
 use mathlib.Core.Bool.{true}

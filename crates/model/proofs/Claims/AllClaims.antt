@@ -7,30 +7,23 @@ use mathlib.Core.Bool.{Bool, true, false, cond, true≢false}
 use mathlib.Core.List.{List, [], _∷_, map}
 use native.Mathlib.Omega.{arith}
 use lib.Dec.{eqb}
-use lib.ListN.{length, getD, length-map, List·getD-map}
+use lib.ListN.{length, getD}
 use Rattle.model.specs.declared.Ranges.{Ranges}
 use Rattle.model.specs.declared.Target.{Target}
 use Rattle.model.specs.Ranges.{low, high}
 use Rattle.model.specs.File.{tabulate, targetStart, targetKind, claimIn, targetIn}
-use Rattle.model.specs.Safety.{EightWords, Bytes}
+use Rattle.model.specs.Safety.{EightWords}
 use Rattle.model.specs.Claims.{writeRanges, writeClaims}
 use Rattle.model.proofs.Tests.{by-cond}
-use Rattle.model.proofs.Tabulate.{table-at, tabulate-same, tabulate-is, map-tabulate}
+use Rattle.model.proofs.Tabulate.{table-at, tabulate-same, map-tabulate}
 use Rattle.model.proofs.Writing.{write-own, Over, over-counts, over-nothing, over-then, over-number}
-use Rattle.model.proofs.Claims.OneClaim.{lowIn, highIn, SameHead, same-head, same-target, ranges-length, ranges-bytes, claim-read, claim-head, claim-elsewhere}
+use Rattle.model.proofs.Claims.OneClaim.{lowIn, highIn, SameHead, same-head, same-target, ranges-length, claim-read, claim-head, claim-elsewhere}
 use Rattle.model.proofs.Claims.Ending.{ProperTarget, AllProper}
 use Rattle.model.proofs.Claims.Independent.{Alike, AllAlike}
 
 -- which of the targets are indirect
 abbrev pub kinds : List Target → List Bool
 kinds ts = map (λ (t : Target). t .indirect) ts
-
--- they are those of a table where each is
-pub kinds-are : (ts : List Target) (d : Target) (n : ℕ) (indirect : ℕ → Bool) → length ts ≡ n
-    → ((j : ℕ) → j < n → getD ts j d .indirect ≡ indirect j) → kinds ts ≡ tabulate 0 n indirect
-kinds-are ts d n indirect long each =
-    sym (tabulate-is indirect (d .indirect) n (kinds ts) (length-map ts _ ∙ long)
-    (λ j below. sym (List·getD-map (λ (t : Target). t .indirect) ts j d ∙ each j below)))
 
 -- ---- one target: an indirect one is left alone
 
@@ -57,12 +50,6 @@ pub claims-length : (ts : List Target) (j : ℕ) (bytes : List ℕ) → length (
 unfolding writeClaims
 claims-length [] j bytes = refl
 claims-length (t ∷ ts) j bytes = claims-length ts (suc j) (writeOne t j bytes) ∙ one-length t j bytes
-
-pub claims-bytes : (ts : List Target) (j : ℕ) {size : ℕ} {bytes : List ℕ} → Bytes size bytes → Bytes size (writeClaims j ts bytes)
-unfolding writeClaims
-claims-bytes [] j b = b
-claims-bytes (t ∷ ts) j {size} {bytes} b =
-    claims-bytes ts (suc j) (written-or-not t j bytes (Bytes size) b (ranges-bytes (t .claim) (targetStart j) bytes b 8))
 
 -- index and kind of each target are kept
 pub claims-head : (ts : List Target) (j : ℕ) (bytes : List ℕ) (m : ℕ) → SameHead (writeClaims j ts bytes) bytes m
@@ -176,7 +163,7 @@ module _ (bytes : List ℕ) (small : (i : ℕ) → getD bytes i 0 < 256) where
       (write-own 4 bytes (targetStart j + 8 + 8 * n) small)
 
   -- the claims that stand there change nothing
-  pub claims-own : (j n : ℕ) → writeClaims j (tabulate j n (targetIn bytes)) bytes ≡ bytes
+  claims-own : (j n : ℕ) → writeClaims j (tabulate j n (targetIn bytes)) bytes ≡ bytes
   unfolding writeClaims tabulate targetIn
   claims-own j zero = refl
   claims-own j (suc n) =

@@ -1,23 +1,22 @@
 -- A file with other claims over those of its direct targets, whatever they are: the sweeps can still start from it, the same is worked
--- out and so the finished file is the same, and with the claims that came in written back it is as it came. Assumes nothing.
+-- out, and so the finished file is the same. Assumes nothing.
 use Prim.Native.Nat.{ℕ, zero, suc}
 use mathlib.Core.Path.{_≡_, refl, sym, ap, _∙_}
 use mathlib.Core.Bool.{Bool, true}
-use mathlib.Core.List.{List, [], _∷_, _++_, map, map-map}
+use mathlib.Core.List.{List, _++_, map, map-map}
 use native.Mathlib.Omega.{arith}
 use lib.Dec.{eqb}
-use lib.ListN.{length, take, take-append-drop}
+use lib.ListN.{length}
 use Rattle.model.specs.declared.Layout.{Layout}
 use Rattle.model.specs.declared.Target.{Target}
 use Rattle.model.specs.Program.{Program}
-use Rattle.model.specs.File.{valueAt, targetsAt, codeIn, targetsIn, targetCount, layoutIn, tabulate, targetKind, claimIn, targetIn, programOf, programIn}
+use Rattle.model.specs.File.{codeIn, targetsIn, targetCount, layoutIn, tabulate, targetKind, claimIn, targetIn, programOf, programIn}
 use Rattle.model.specs.Rules.{TargetPlaced, ModulePlaced, FilePlaced}
 use Rattle.model.specs.Claims.{Entry, WorkedOut, begun, finished, withClaims, writeClaims, claimed, finishedFile}
-use Rattle.model.specs.Promises.{AreBytes}
 use Rattle.model.proofs.Tabulate.{map-tabulate}
-use Rattle.model.proofs.Stretches.{value-bytes, targets-rest}
+use Rattle.model.proofs.Stretches.{targets-rest}
 use Rattle.model.proofs.Claims.Independent.{Alike, AllAlike, ignores-inner, begins-again}
-use Rattle.model.proofs.Claims.AllClaims.{kinds, claims-length, claims-bytes, claims-head, claims-kept, claims-over, claims-own}
+use Rattle.model.proofs.Claims.AllClaims.{kinds, claims-length, claims-head, claims-kept, claims-over}
 use Rattle.model.proofs.Claims.Exchanged.{front, front-same, targets-are, exchanged-program, exchanged-holds}
 
 -- ---- the module
@@ -92,28 +91,11 @@ kinds-worked p =
 
 -- ---- the file
 
-append-bytes : (a b : List ℕ) → AreBytes a → AreBytes b → AreBytes (a ++ b)
-append-bytes [] b small small′ i = small′ i
-append-bytes (x ∷ a) b small small′ zero = small zero
-append-bytes (x ∷ a) b small small′ (suc i) = append-bytes a b (λ j. small (suc j)) small′ i
-
-take-bytes : (n : ℕ) (a : List ℕ) → AreBytes a → AreBytes (take n a)
-take-bytes zero a small i = omega arith
-take-bytes (suc n) [] small i = omega arith
-take-bytes (suc n) (x ∷ a) small zero = small zero
-take-bytes (suc n) (x ∷ a) small (suc i) = take-bytes n a (λ j. small (suc j)) i
-
 -- its targets' bytes are exchanged
 pub claimed-is : (file : List ℕ) → FilePlaced file → (ts : List Target)
     → claimed ts file ≡ front file ++ writeClaims 0 ts (targetsIn file)
 unfolding claimed
 claimed-is file placed ts = ap (λ (b : List ℕ). front file ++ writeClaims 0 ts b) (targets-rest file placed)
-
-pub claimed-bytes : (file : List ℕ) → FilePlaced file → AreBytes file → (ts : List Target) → AreBytes (claimed ts file)
-claimed-bytes file placed bytes ts =
-    rw (claimed-is file placed ts)
-    (append-bytes (front file) (writeClaims 0 ts (targetsIn file)) (take-bytes (valueAt (targetsAt file)) file bytes)
-    (claims-bytes ts 0 (record { long = refl; small = value-bytes file (targetsAt file) 3 bytes }) .small))
 
 module _ (file : List ℕ) (placed : FilePlaced file) (ts : List Target) (same : kinds ts ≡ kinds (programIn file .targets)) where
   abbrev after : List ℕ
@@ -139,16 +121,6 @@ module _ (file : List ℕ) (placed : FilePlaced file) (ts : List Target) (same :
       ∙ (λ i. front-same file placed after as-long i ++ writeClaims 0 ts′ (targets-are file placed after as-long i))
       ∙ ap (λ (b : List ℕ). front file ++ b) (claims-over ts′ ts 0 (targetsIn file) alike)
       ∙ sym (claimed-is file placed ts′)
-
-  -- and those that came in, over these, give the file as it came
-  pub claimed-restored : AreBytes file → claimed (programIn file .targets) (claimed ts file) ≡ file
-  unfolding programOf
-  claimed-restored bytes =
-      let own = claims-own (targetsIn file) (value-bytes file (targetsAt file) 3 bytes) 0 (targetCount (targetsIn file)) in
-      claimed-over (programIn file .targets) (sym same)
-      ∙ claimed-is file placed (programIn file .targets)
-      ∙ ap (λ (b : List ℕ). front file ++ b) (own ∙ sym (targets-rest file placed))
-      ∙ take-append-drop (valueAt (targetsAt file)) file
 
   claimed-worked : withClaims (programIn (claimed ts file)) ≡ withClaims (programIn file)
   claimed-worked =

@@ -186,12 +186,3 @@ begins-again p =
     map-map begun finished (workedOut p .entries)
     ∙ again-sweeping (codeOf p) (mostSweeps p) 0 (map begun (p .targets))
     ∙ again-begun (p .targets)
-
--- twice is as once, in the entries and in the sweeps
-pub once-more : (p : Program) → workedOut (withClaims p) ≡ workedOut p
-unfolding withClaims
-once-more p = same-begun (withClaims p) p refl refl (begins-again p)
-
-pub finished-already : (p : Program) → withClaims (withClaims p) ≡ withClaims p
-unfolding withClaims
-finished-already p = ap (λ (w : WorkedOut). record { layout = p .layout; code = p .code; targets = map finished (w .entries) }) (once-more p)

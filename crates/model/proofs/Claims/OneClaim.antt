@@ -14,9 +14,8 @@ use Rattle.model.specs.declared.Ranges.{Ranges}
 use Rattle.model.specs.Words.{modulus, readBytes, writeBytes}
 use Rattle.model.specs.Ranges.{low, high}
 use Rattle.model.specs.File.{byteAt, targetStart, targetIndex, targetKind, claimIn, targetIn}
-use Rattle.model.specs.Safety.{EightWords, Bytes}
+use Rattle.model.specs.Safety.{EightWords}
 use Rattle.model.specs.Claims.{writeRanges}
-use Rattle.model.proofs.Registers.{bytes-write}
 use Rattle.model.proofs.Steady.{writeBytes-length}
 use Rattle.model.proofs.Tabulate.{tabulate-same, tabulate-is}
 use Rattle.model.proofs.Writing.{same-number, write-outside, read-outside, write-read}
@@ -125,12 +124,6 @@ module _ (k : Ranges) (at : ℕ) (bytes : List ℕ) where
             earlier-read (at + 4 + 8 * r) (omega arith) ∙ was .0,
             earlier-read (at + 8 + 8 * r) (omega arith) ∙ was .1,
           )
-
-  -- bytes stay bytes
-  pub ranges-bytes : {size : ℕ} → Bytes size bytes → (n : ℕ) → Bytes size (writeRanges n at k bytes)
-  unfolding writeRanges
-  ranges-bytes b zero = b
-  ranges-bytes b (suc n) = bytes-write 4 (high k n) (at + 8 + 8 * n) (bytes-write 4 (low k n) (at + 4 + 8 * n) (ranges-bytes b n))
 
 -- ---- a claim, over that of the target of a number
 
