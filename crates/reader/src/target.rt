@@ -140,7 +140,8 @@ fn is_in_order(targets: &[u8], j: u32) -> bool
 }
 
 // The rules of a target, in a module of n instructions, but for the order of its claim's ends.
-pub fn is_placed_target(n: u32, targets: &[u8], j: u32) -> bool
+fn is_placed_target(n: u32, targets: &[u8], j: u32, claim: Ranges) -> bool
+    requires { ⌜ claim ≡ claimIn (now targets) j ⌝ }
     ensures { λ x. ⌜ x ≡ isPlacedTarget n (now (targets .entry)) j ⌝ }
 {
     let kind = kind_of(targets, j);
@@ -154,7 +155,7 @@ pub fn is_placed_target(n: u32, targets: &[u8], j: u32) -> bool
         return false;
     }
     if kind == INDIRECT {
-        if !is_indirect_claim(claim_in(targets, j)) {
+        if !is_indirect_claim(claim) {
             return false;
         }
     }
@@ -165,11 +166,12 @@ pub fn is_placed_target(n: u32, targets: &[u8], j: u32) -> bool
 pub fn is_good_target(n: u32, targets: &[u8], j: u32, claims: bool) -> bool
     ensures { λ x. ⌜ x ≡ asked claims n (now (targets .entry)) j ⌝ }
 {
-    if !is_placed_target(n, targets, j) {
+    let claim = claim_in(targets, j);
+    if !is_placed_target(n, targets, j, claim) {
         return false;
     }
     if claims {
-        return is_ordered(claim_in(targets, j));
+        return is_ordered(claim);
     }
     true
 }

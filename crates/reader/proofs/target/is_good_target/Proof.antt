@@ -6,21 +6,28 @@ use Rattle.reader.proofs.Targets.{misplaced, by-claim, claim-ignored}
 use Rattle.reader.proofs.target.is_good_target.Statement.{statement}
 use Rattle.reader.proofs.target.is_good_target.Tie as tie
 
+-- the claim that was read, and what was found of the target with it
+is-claimed : tie.Need-is-placed-target-requires
+is-claimed c κs = c .claim-in .ensures
+
 returns : tie.Need-returns
-returns c = misplaced _ _ _ (c .before .before .before .args .claims) (test-fails (c .before .is-placed-target .ensures) (c .if1 .taken))
+returns c =
+    let tested = c .before in
+    misplaced _ _ _ (tested .before .before .before .args .claims) (test-fails (tested .is-placed-target .ensures) (c .if1 .taken))
 
 returns-2 : tie.Need-returns-2
 returns-2 c =
-    let claim = c .before in
-    let counts = claim .before in
+    let counts = c .before in
     let placed = counts .before in
-    c .is-ordered .ensures ∙ ap isOrderedClaim (claim .claim-in .ensures)
-    ∙ by-claim _ _ _ (test-passes (placed .before .is-placed-target .ensures) (placed .if1 .left)) (placed .before .before .before .args .claims) (counts .if2 .taken)
+    let tested = placed .before in
+    c .is-ordered .ensures ∙ ap isOrderedClaim (tested .before .claim-in .ensures)
+    ∙ by-claim _ _ _ (test-passes (tested .is-placed-target .ensures) (placed .if1 .left)) (tested .before .before .before .args .claims) (counts .if2 .taken)
 
 returns-3 : tie.Need-returns-3
 returns-3 c =
     let placed = c .before in
-    claim-ignored _ _ _ (test-passes (placed .before .is-placed-target .ensures) (placed .if1 .left)) (placed .before .before .before .args .claims) (c .if2 .left)
+    let tested = placed .before in
+    claim-ignored _ _ _ (test-passes (tested .is-placed-target .ensures) (placed .if1 .left)) (tested .before .before .before .args .claims) (c .if2 .left)
 
 pub is-good-target-spec : {M : Type 1} → statement M
-is-good-target-spec = tie.close (tie.spec (λ c κs. tt) returns (λ c κs. tt) (λ c κs. tt) returns-2 returns-3)
+is-good-target-spec = tie.close (tie.spec (λ c κs. tt) is-claimed returns (λ c κs. tt) returns-2 returns-3)

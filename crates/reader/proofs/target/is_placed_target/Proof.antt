@@ -8,10 +8,12 @@ use Rattle.reader.proofs.Targets.{Parts, outside, unknown-kind, used-by
 use Rattle.reader.proofs.target.is_placed_target.Statement.{statement}
 use Rattle.reader.proofs.target.is_placed_target.Tie as tie
 
+abbrev start : tie.After-index-of → tie.Start
+start c = c .before .before .before
+
 parts : (c : tie.After-index-of) →
-    let kind = c .before in
-    let entry = kind .before .before .args in
-    Parts (entry .targets .now) (entry .j) (kind .kind-of .result) (c .index-of .result)
+    let entry = start c .args in
+    Parts (entry .targets .now) (entry .j) (c .before .kind-of .result) (c .index-of .result)
 parts c = record { is-kind = c .before .kind-of .ensures; is-index = c .index-of .ensures }
 
 returns : tie.Need-returns
@@ -28,14 +30,13 @@ returns-3 c =
 
 returns-4 : tie.Need-returns-4
 returns-4 c =
-    let claim = c .before .before in
-    let indirect = claim .before in
+    let indirect = c .before .before in
     let unused = indirect .before in
     let known = unused .before .before in
     let inside = known .before in
     narrow-claim _ (parts (inside .before)) (inside .if1 .left) (known .if2 .left) (unused .before .zero-byte .ensures) (unused .if3 .left)
     (indirect .if4 .taken)
-    (ap isIndirectClaim (sym (claim .claim-in .ensures)) ∙ sym (c .before .is-indirect-claim .ensures) ∙ not-true _ (c .if5 .taken))
+    (ap isIndirectClaim (sym (start (inside .before) .pre)) ∙ sym (c .before .is-indirect-claim .ensures) ∙ not-true _ (c .if5 .taken))
 
 returns-5 : tie.Need-returns-5
 returns-5 c =
@@ -46,7 +47,7 @@ returns-5 c =
     c .is-in-order .ensures
     ∙ only-order _ (parts (inside .before)) (inside .if1 .left) (known .if2 .left) (unused .before .zero-byte .ensures) (unused .if3 .left)
     (⊎-elim
-    (λ tested indirect. ap isIndirectClaim (sym (tested .1 .ensures)) ∙ sym (tested .2 .ensures) ∙ not-false _ (tested .3 .left))
+    (λ tested indirect. ap isIndirectClaim (sym (start (inside .before) .pre)) ∙ sym (tested .1 .ensures) ∙ not-false _ (tested .2 .left))
     (λ direct indirect. absurd (direct .left indirect))
     (joined .if4 .came))
 
@@ -55,4 +56,4 @@ is-placed-target-spec =
     tie.close
     (tie.spec
     (λ c κs. tt) (λ c κs. tt) (λ c. omega arith) returns returns-2
-    (λ c κs. tt) returns-3 (λ c κs. tt) (λ c κs. tt) returns-4 (λ c κs. tt) returns-5)
+    (λ c κs. tt) returns-3 (λ c κs. tt) returns-4 (λ c κs. tt) returns-5)
