@@ -1,5 +1,5 @@
 -- Rule 10 on ends that are kept raised by 2^32: the code's two comparisons are the definition's. Assumes nothing.
-use Prim.Native.Nat.{ℕ, suc, _+_, _-_, _%_, _^_, _≤_, _<_}
+use Prim.Native.Nat.{ℕ, suc, _+_, _-_, _%_, _≤_, _<_}
 use mathlib.Core.Path.{_≡_, refl, sym, ap, ap₂, _∙_}
 use mathlib.Core.Bool.{Bool, true, false, _&&_}
 use native.Mathlib.Omega.{arith}
@@ -13,7 +13,7 @@ use mir.ValLaws.{toZ-ofZ}
 use Rattle.model.specs.declared.Layout.{Layout}
 use Rattle.model.specs.declared.Range.{Range}
 use Rattle.model.specs.declared.Width.{Width}
-use Rattle.model.specs.Words.{modulus}
+use Rattle.model.specs.Words.{modulus, wrap}
 use Rattle.model.specs.Ranges.{range, regionRange}
 use Rattle.model.specs.Instructions.{bytesOf}
 use Rattle.model.specs.Judgement.{isContained}
@@ -21,15 +21,16 @@ use Rattle.model.specs.Rules.{LayoutKept}
 use Rattle.model.proofs.Tests.{by-cond}
 use Rattle.model.proofs.Values.{some-size}
 use Rattle.model.proofs.Containment.{few-bytes}
+use Rattle.verifier.specs.Standing.{wrappedRegion}
 
--- DB to DL, with the size less one added to the base
-pub region-ends : {l : Layout} → LayoutKept l → range (l .base) (l .base + (l .size - 1)) ≡ regionRange l
-region-ends {l} kept = ap (range (l .base)) (omega (arith, some-size kept))
-
--- and neither the difference nor the sum wraps
-pub last-unwrapped : {l : Layout} → LayoutKept l → (less : ℕ) → less < 2 ^ 32 → (less + 1) % 2 ^ 32 ≡ l .size
-    → (last : ℕ) → last ≡ (l .base + less) % 2 ^ 32 → last ≡ l .base + (l .size - 1)
-last-unwrapped {l} kept less fits is-less last is-last = omega (arith, some-size kept, kept .above)
+-- where rule 5 is kept a region has a byte, and its end does not wrap
+pub unwrapped : {l : Layout} → LayoutKept l → wrappedRegion l ≡ regionRange l
+unfolding wrap
+unwrapped {l} kept =
+    ap (range (l .base))
+    (by-cond (λ (z : ℤ). (l .base + wrap z) % modulus ≡ l .base + l .size - 1) (ltb (l .size) 1)
+    (λ less. omega (arith, some-size kept, ltb-true (l .size) 1 less))
+    (λ least. omega (arith, some-size kept, kept .above)))
 
 -- two comparisons that say the same
 same-order : (a b c d : ℕ) → (a ≤ b → c ≤ d) → (c ≤ d → a ≤ b) → leb a b ≡ leb c d

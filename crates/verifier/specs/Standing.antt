@@ -4,16 +4,24 @@ use mathlib.Core.Path.{_≡_}
 use mathlib.Core.Bool.{Bool, true}
 use mathlib.Core.List.{List}
 use mathlib.Core.Option.{Option, none, some}
+use lib.IntN.{pos, _+ℤ_, subℕ}
 use Rattle.model.specs.declared.Instruction.{Instruction}
 use Rattle.model.specs.declared.Layout.{Layout}
+use Rattle.model.specs.declared.Range.{Range}
 use Rattle.model.specs.declared.Ranges.{Ranges}
 use Rattle.model.specs.declared.Target.{Target}
+use Rattle.model.specs.Words.{wrap}
+use Rattle.model.specs.Ranges.{range}
 use Rattle.model.specs.Program.{Program, codeAt, targetAt}
 use Rattle.model.specs.File.{programOf}
 use Rattle.model.specs.Judgement.{traitsAt, startingRanges, knownAt, nextRanges}
 use Rattle.reader.specs.declared.lookup.Lookup.{Lookup}
 use Rattle.reader.specs.Lookups.{targetFound}
 use Rattle.reader.specs.Readings.{Loaded}
+
+-- "DB = base to DL = base + size − 1", in machine arithmetic: of a layout that rule 5 refuses the end wraps
+abbrev pub wrappedRegion : Layout → Range
+wrappedRegion l = range (l .base) (wrap (pos (l .base) +ℤ pos (wrap (subℕ (l .size) 1))))
 
 -- the instruction before an index goes on to it, and what is known then; nothing stands before index 0
 abbrev pub arrivesAt : Program → ℕ → Bool

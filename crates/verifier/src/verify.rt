@@ -13,32 +13,31 @@ use reader::lookup::Lookup;
 use reader::read;
 use reader::read::Parsed;
 use reader::target;
+use words::arithmetic;
 ghost use mathlib.Core.Path.{_≡_};
 ghost use mathlib.Core.Bool.{Bool, cond};
 ghost use Prim.Native.Nat.{_+_, _<_};
 ghost use lib.Dec.{eqb};
 ghost use Rattle.model.specs.Obligations.{firstFault};
 ghost use Rattle.model.specs.Answers.{judgementOf};
-ghost use Rattle.model.specs.Ranges.{regionRange};
 ghost use Rattle.model.specs.File.{programOf};
 ghost use Rattle.model.specs.Judgement.{verified, judgement};
-ghost use Rattle.model.specs.Rules.{LayoutKept};
 ghost use Rattle.reader.specs.declared.lookup.Lookup.the-variants.{At, Nowhere};
 ghost use Rattle.reader.specs.Findings.{faultIn};
 ghost use Rattle.reader.specs.Marks.{markAt};
 ghost use Rattle.reader.specs.Readings.{Loaded};
+ghost use Rattle.verifier.specs.Standing.{wrappedRegion};
 
 // No index: what stands behind the last target.
 const BEYOND: u32 = 65536;
 
-// DB to DL. Where rule 5 is not kept the end is cut to 32 bits.
+// DB to DL; of a layout that rule 5 refuses the end wraps.
 pub fn region_of(layout: Layout) -> Range
-    ensures { λ r. ⌜ (LayoutKept layout → r ≡ regionRange layout) ⌝ }
+    ensures { λ r. ⌜ r ≡ wrappedRegion layout ⌝ }
 {
-    let last = std::num::wrapping_sub_u32(layout.size, 1);
     Range {
         low: layout.base,
-        high: std::num::wrapping_add_u32(layout.base, last),
+        high: arithmetic::sum(layout.base, arithmetic::difference(layout.size, 1)),
     }
 }
 

@@ -12,6 +12,7 @@ use Rattle.model.specs.Claims.{Sweep, sweep, codeOf}
 use Rattle.reader.specs.Readings.{Loaded}
 use Rattle.reader.proofs.Fetching.{fetched, program-count}
 use Rattle.reader.proofs.Searches.{rising}
+use Rattle.verifier.proofs.Zones.{unwrapped}
 use Rattle.claims.specs.Tables.{rows, Whole, entriesIn}
 use Rattle.claims.proofs.Sweeping.{So, Enters, sweep-starts, takes-claim, takes-nothing, sweep-visits, sweep-passes}
 use Rattle.claims.proofs.sweep.sweep.Statement.{statement}
@@ -80,7 +81,7 @@ returns : tie.Need-returns Inv-loop μ-loop
 returns c =
     let l = c .before in
     let start = l .before .before .before .before .before in
-    let so = l .loop .inv .2 (start .args .layout) (start .pre .0) (l .before .before .region-of .ensures (start .pre .0 .kept .layout)) in
+    let so = l .loop .inv .2 (start .args .layout) (start .pre .0) (l .before .before .region-of .ensures ∙ unwrapped (start .pre .0 .kept .layout)) in
     let all : l .loop .i ≡ length (programOf (start .args .layout) (start .args .code .now) (start .args .targets .now) .code) =
     omega (arith, l .loop .inv .0, c .loop-test .left, program-count (start .pre .0)) in
     (l .loop .inv .1, ap (λ (s : Sweep). s .table) (so .is ∙ ap (sweep _ _) all))

@@ -8,6 +8,7 @@ use denote.Ref.{now}
 use Rattle.model.specs.Answers.{ruleNumber}
 use Rattle.reader.specs.declared.lookup.Lookup.{Lookup}
 use Rattle.reader.proofs.Fetching.{fetched}
+use Rattle.verifier.proofs.Zones.{unwrapped}
 use Rattle.verifier.proofs.Passing.{Pass, Entered, Left, takes-claim, takes-nothing, pass-starts, pass-ends, numbers-few, standing, turn-refuses, next-refuses, turn-passes}
 use Rattle.verifier.proofs.verify.check_code.Statement.{statement}
 use Rattle.verifier.proofs.verify.check_code.Tie as tie
@@ -69,7 +70,7 @@ left : (c : Gone) → let told = c .before .before .before .before .before .befo
 left c =
     let l = loop-of (c .before .before .before .before .before .before .before .before) in
     record {
-      is-region = l .before .before .before .region-of .ensures (start l .pre .kept .layout);
+      is-region = l .before .before .before .region-of .ensures ∙ unwrapped (start l .pre .kept .layout);
       goes = c .before .before .after-next .ensures;
       is-number = c .before .number-after .ensures;
       is-there = c .target-at2 .ensures;
