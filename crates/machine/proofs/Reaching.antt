@@ -1,83 +1,82 @@
 -- Where the bytes of an access lie, and moving them: each way through the code is the definition's, by its tests, and what lies
 -- inside the region fits there. Assumes nothing.
-use Prim.Native.Nat.{ℕ, _+_, _-_, _%_, _≤_, _<_}
-use mathlib.Core.Path.{_≡_, refl, sym, ap, _∙_}
-use mathlib.Core.Logic.{_⊎_, inl, inr}
-use mathlib.Core.Bool.{Bool, true, false, cond, _&&_, false≢true}
+use Prim.Native.Nat.{ℕ, suc, _+_, _-_, _%_, _≤_, _<_}
+use mathlib.Core.Path.{_≡_, refl, ap, _∙_}
+use mathlib.Core.Bool.{Bool, true, false, cond, _&&_}
 use mathlib.Core.List.{List}
-use native.Mathlib.Nat.{mod-lt}
+use native.Mathlib.Nat.{mod-lt, add-zero, sub-zero}
 use native.Mathlib.Omega.{arith}
-use borrow.Author.Tests.{leb-true, le-leb, lt-leb}
+use borrow.Author.Tests.{leb-true, le-leb, lt-leb, ltb-true, ltb-false}
 use lib.Bits.{bitAnd, and-mask}
-use lib.Dec.{leb}
+use lib.Dec.{leb, ltb}
+use lib.IntN.{ℤ, subℕ}
 use lib.ListN.{length, getD}
 use Rattle.model.specs.declared.Layout.{Layout}
 use Rattle.model.specs.declared.Width.{Width}
 use Rattle.model.specs.declared.Ending.the-variants.{Trapped, Violated}
-use Rattle.model.specs.Words.{modulus, readBytes}
+use Rattle.model.specs.Words.{modulus, wrap, readBytes}
 use Rattle.model.specs.Instructions.{bytesOf}
 use Rattle.model.specs.Step.{inRegion, inZones, Effect, ends, accessing}
 use Rattle.model.specs.Rules.{LayoutKept}
-use Rattle.model.proofs.Tests.{and-left, and-right}
-use Rattle.model.proofs.Values.{some-size}
+use Rattle.model.proofs.Tests.{by-cond, and-left, and-right, same-order}
+use Rattle.model.proofs.Values.{some-size, least-size}
+use Rattle.model.proofs.Containment.{some-bytes, few-bytes}
 use Rattle.machine.specs.declared.access.Reach.{Reach}
 use Rattle.machine.specs.declared.access.Reach.the-variants.{Inside, Guarded, Outside}
 use Rattle.machine.specs.Core.{reachOf}
 
--- ---- the reach of an access
+-- ---- the reach of an access, by distances
 
--- one test that fails is enough
-either-fails : (a b : Bool) → (a ≡ false) ⊎ (b ≡ false) → a && b ≡ false
-either-fails true b (inl e) = absurd (false≢true (sym e))
-either-fails true b (inr e) = e
-either-fails false b e = refl
+-- how far an address lies above the lowest byte, wrapped, tells what the two sums tell: of region and guard zones, and with
+-- guard 0 of the region alone
+by-distance : (base size guard w at : ℕ) → guard ≤ base → base + size + guard ≤ modulus → 0 < w → w ≤ size → at < modulus
+    → leb (wrap (subℕ at (base - guard))) (size + guard + guard - w) ≡ leb (base - guard) at && leb (at + w) (base + size + guard)
+unfolding wrap
+by-distance base size guard w at below above some room word =
+    by-cond (λ (distance : ℤ). leb (wrap distance) (size + guard + guard - w) ≡ leb (base - guard) at && leb (at + w) (base + size + guard))
+    (ltb at (base - guard))
+    (λ less.
+    let under : at < base - guard = ltb-true at (base - guard) less in
+    rw (lt-leb (base - guard) at under)
+    (lt-leb (modulus - suc ((base - guard - suc at) % modulus)) (size + guard + guard - w) (omega arith)))
+    (λ least.
+    let over : base - guard ≤ at = ltb-false at (base - guard) least in
+    rw (le-leb (base - guard) at over)
+    (same-order ((at - (base - guard)) % modulus) (size + guard + guard - w) (at + w) (base + size + guard)
+    (λ h. omega arith) (λ h. omega arith)))
 
--- the numbers that `reach_of` goes by
-pub record Numbers (l : Layout) (at : ℕ) (w : Width) (from count base size guard : ℕ) : Type 0 where
-  pub is-from : from ≡ at
-  pub is-count : count ≡ bytesOf w
-  pub is-base : base ≡ l .base
-  pub is-size : size ≡ l .size
-  pub is-guard : guard ≡ l .guard
-
-module _ {l : Layout} {at : ℕ} {w : Width} {from count base size guard : ℕ} (are : Numbers l at w from count base size guard) where
-  not-in-region : (from < base) ⊎ (base + size < from + count) → inRegion l at (bytesOf w) ≡ false
+module _ {l : Layout} (kept : LayoutKept l) (at : ℕ) (word : at < modulus) (w : Width) where
+  pub region-by-distance : leb (wrap (subℕ at (l .base))) (l .size - bytesOf w) ≡ inRegion l at (bytesOf w)
   unfolding inRegion
-  not-in-region (inl low) = either-fails (leb (l .base) at) _ (inl (lt-leb (l .base) at (omega arith)))
-  not-in-region (inr high) = either-fails (leb (l .base) at) _ (inr (lt-leb (at + bytesOf w) (l .base + l .size) (omega arith)))
+  region-by-distance =
+      simp (add-zero, sub-zero) at
+      (by-distance (l .base) (l .size) 0 (bytesOf w) at (omega arith) (omega (arith, kept .above)) (some-bytes w)
+      (omega (arith, few-bytes w, least-size kept)) word)
 
-  not-in-zones : (from + guard < base) ⊎ (base + size + guard < from + count) → inZones l at (bytesOf w) ≡ false
+  pub zones-by-distance
+      : leb (wrap (subℕ at (l .base - l .guard))) (l .size + l .guard + l .guard - bytesOf w) ≡ inZones l at (bytesOf w)
   unfolding inZones
-  not-in-zones (inl low) = either-fails (leb (l .base - l .guard) at) _ (inl (lt-leb (l .base - l .guard) at (omega arith)))
-  not-in-zones (inr high) = either-fails (leb (l .base - l .guard) at) _ (inr (lt-leb (at + bytesOf w) (l .base + l .size + l .guard) (omega arith)))
+  zones-by-distance =
+      by-distance (l .base) (l .size) (l .guard) (bytesOf w) at (kept .below) (kept .above) (some-bytes w)
+      (omega (arith, few-bytes w, least-size kept)) word
 
-  pub lies-inside : base ≤ from → from + count ≤ base + size → Inside (from - base) ≡ reachOf l at w
-  unfolding reachOf inRegion
-  lies-inside low high =
-      rw (
-        le-leb (l .base) at (omega arith),
-        le-leb (at + bytesOf w) (l .base + l .size) (omega arith),
-        are .is-from,
-        are .is-base,
-      )
-
-  pub lies-outside : (from + guard < base) ⊎ (base + size + guard < from + count) → Outside ≡ reachOf l at w
+module _ (l : Layout) (at : ℕ) (w : Width) where
+  pub lies-inside : inRegion l at (bytesOf w) ≡ true → Inside (at - l .base) ≡ reachOf l at w
   unfolding reachOf
-  lies-outside past = rw (not-in-region (past-region past), not-in-zones past)
-    where
-      past-region : (from + guard < base) ⊎ (base + size + guard < from + count) → (from < base) ⊎ (base + size < from + count)
-      past-region (inl low) = inl (omega arith)
-      past-region (inr high) = inr (omega arith)
+  lies-inside inside = rw inside
 
-  pub lies-guarded : (from < base) ⊎ (base + size < from + count) → base ≤ from + guard → from + count ≤ base + size + guard
-      → Guarded ≡ reachOf l at w
-  unfolding reachOf inZones
-  lies-guarded past low high =
-      rw (
-        not-in-region past,
-        le-leb (l .base - l .guard) at (omega arith),
-        le-leb (at + bytesOf w) (l .base + l .size + l .guard) (omega arith),
-      )
+  pub lies-guarded : inRegion l at (bytesOf w) ≡ false → inZones l at (bytesOf w) ≡ true → Guarded ≡ reachOf l at w
+  unfolding reachOf
+  lies-guarded past guarded = rw (past, guarded)
+
+  pub lies-outside : inRegion l at (bytesOf w) ≡ false → inZones l at (bytesOf w) ≡ false → Outside ≡ reachOf l at w
+  unfolding reachOf
+  lies-outside past beyond = rw (past, beyond)
+
+  -- what lies in the region lies at the base or above
+  pub from-base : inRegion l at (bytesOf w) ≡ true → l .base ≤ at
+  unfolding inRegion
+  from-base inside = leb-true (l .base) at (and-left _ _ inside)
 
 -- ---- what is known of an access whose reach is known
 

@@ -2,27 +2,26 @@
 use model::Layout;
 use model::LoadWidth;
 use model::Width;
+use words::arithmetic::difference;
 ghost use mathlib.Core.Path.{_≡_};
 ghost use Prim.Native.Nat.{_+_, _*_, _^_, _≤_, _<_};
 ghost use lib.ListN.{length};
 ghost use Rattle.model.specs.Words.{readBytes, writeBytes};
 ghost use Rattle.model.specs.Instructions.{bytesOf, widthRead, carried};
+ghost use Rattle.model.specs.Step.{inRegion, inZones};
+ghost use Rattle.model.specs.Rules.{LayoutKept};
 ghost use Rattle.machine.specs.Core.{reachOf};
+
+// ---- where they lie, by distances that wrap: no number has more than 32 bits (document 02, ticket 4)
 
 // All bytes in the region, at an offset of it; or all in region and guard zones; or not.
 pub(crate) enum Reach {
-    Inside { offset: usize },
+    Inside { offset: u32 },
     Guarded,
     Outside,
 }
 
-fn wide(x: u32) -> u64
-    ensures { λ r. ⌜ (r ≡ x) × (r ≤ 0xFFFF_FFFF) ⌝ }
-{
-    x as u64
-}
-
-fn bytes_of(width: Width) -> u64
+fn bytes_of(width: Width) -> u32
     ensures { λ r. ⌜ (r ≡ bytesOf width) × (r ≤ 4) ⌝ }
 {
     match width {
@@ -32,29 +31,43 @@ fn bytes_of(width: Width) -> u64
     }
 }
 
+// The region test. An address below the base is so far above it, wrapped, that it lies past the region.
+fn in_region(layout: Layout, address: u32, width: Width) -> bool
+    requires { ⌜ LayoutKept layout ⌝ }
+    ensures { λ r. ⌜ r ≡ inRegion layout address (bytesOf width) ⌝ }
+{
+    let distance = difference(address, layout.base);
+    let most = layout.size - bytes_of(width);
+    distance <= most
+}
+
+// The same of region and guard zones.
+fn in_zones(layout: Layout, address: u32, width: Width) -> bool
+    requires { ⌜ LayoutKept layout ⌝ }
+    ensures { λ r. ⌜ r ≡ inZones layout address (bytesOf width) ⌝ }
+{
+    let distance = difference(address, layout.base - layout.guard);
+    let most = layout.size + layout.guard + layout.guard - bytes_of(width);
+    distance <= most
+}
+
+// The access test.
 pub(crate) fn reach_of(layout: Layout, address: u32, width: Width) -> Reach
+    requires { ⌜ LayoutKept layout ⌝ }
     ensures { λ r. ⌜ r ≡ reachOf layout address width ⌝ }
 {
-    let from = wide(address);
-    let to = from + bytes_of(width);
-    let base = wide(layout.base);
-    let end = base + wide(layout.size);
-    let guard = wide(layout.guard);
-    if base <= from {
-        if to <= end {
-            return Reach::Inside {
-                offset: (from - base) as usize,
-            };
-        }
+    if in_region(layout, address, width) {
+        return Reach::Inside {
+            offset: address - layout.base,
+        };
     }
-    if from + guard < base {
-        return Reach::Outside;
+    if in_zones(layout, address, width) {
+        return Reach::Guarded;
     }
-    if end + guard < to {
-        return Reach::Outside;
-    }
-    Reach::Guarded
+    Reach::Outside
 }
+
+// ---- moving them
 
 // The number of the bytes at an offset.
 pub(crate) fn read(region: &[u8], at: usize, width: Width) -> u32

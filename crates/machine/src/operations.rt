@@ -57,6 +57,7 @@ pub(crate) fn load(
     width: LoadWidth,
     address: u32,
 ) -> Next
+    requires { ⌜ LayoutKept layout ⌝ }
     requires { ⌜ pc < 65536 ⌝ }
     ensures { λ r. ⌜ LoadPost layout n (record { registers = now (registers .entry); pc = pc }) (now (region .entry)) a width address r (now (registers .exit)) ⌝ }
 {
@@ -64,7 +65,7 @@ pub(crate) fn load(
     let reached = access::reach_of(layout, address, bytes);
     match reached {
         Reach::Inside { offset } => {
-            let raw = access::read(region, offset, bytes);
+            let raw = access::read(region, offset as usize, bytes);
             assign(n, pc, registers, a, access::carry(width, raw))
         }
         Reach::Guarded => Next::Ends {
@@ -86,6 +87,7 @@ pub(crate) fn store(
     width: Width,
     address: u32,
 ) -> Next
+    requires { ⌜ LayoutKept layout ⌝ }
     requires { ⌜ pc < 65536 ⌝ }
     requires { ⌜ length (now region) ≡ layout .size ⌝ }
     ensures { λ r. ⌜ StorePost layout n pc (now (region .entry)) value width address r (now (region .exit)) ⌝ }
@@ -95,7 +97,7 @@ pub(crate) fn store(
         Reach::Inside { offset } => {
             let next = places::onward(n, pc);
             if let Next::To { pc: _ } = next {
-                access::write(region, offset, width, value);
+                access::write(region, offset as usize, width, value);
             }
             next
         }

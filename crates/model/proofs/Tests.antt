@@ -1,11 +1,12 @@
 -- Boolean tests: what holds where a test passes, and where it fails. Assumes nothing.
-use Prim.Native.Nat.{ℕ, zero, suc, _<_}
+use Prim.Native.Nat.{ℕ, zero, suc, _≤_, _<_}
 use mathlib.Core.Path.{_≡_, refl, sym, ap, _∙_}
 use mathlib.Core.Logic.{_⊎_, inl, inr}
 use mathlib.Core.Bool.{Bool, true, false, cond, not, _&&_, _||_, false≢true}
 use native.Mathlib.Omega.{arith}
 use native.Mathlib.Decide.{ℕ-discrete}
-use borrow.Author.Tests.{not-true, not-false}
+use borrow.Author.Tests.{not-true, not-false, leb-true, le-leb}
+use lib.Dec.{leb}
 use Rattle.model.specs.Quantifiers.{allBelow}
 
 -- a choice has a property where both its answers have it
@@ -38,6 +39,18 @@ module _ {answer test : Bool} (same : answer ≡ test) where
 
   pub test-passes : not answer ≡ false → test ≡ true
   test-passes left = sym same ∙ not-false answer left
+
+-- two comparisons that say the same
+pub same-order : (a b c d : ℕ) → (a ≤ b → c ≤ d) → (c ≤ d → a ≤ b) → leb a b ≡ leb c d
+same-order a b c d forth back = by-test (leb a b) refl
+  where
+    by-test : (t : Bool) → leb a b ≡ t → t ≡ leb c d
+    by-test true passed = sym (le-leb c d (forth (leb-true a b passed)))
+    by-test false failed = by-other (leb c d) refl
+      where
+        by-other : (s : Bool) → leb c d ≡ s → false ≡ s
+        by-other true passed = sym failed ∙ le-leb a b (back (leb-true c d passed))
+        by-other false still = refl
 
 -- what all numbers below n pass, each of them passes
 pub allBelow-at : (n : ℕ) (f : ℕ → Bool) → allBelow n f ≡ true → (i : ℕ) → i < n → f i ≡ true

@@ -85,6 +85,13 @@ and-fits {p} {x} imm f =
 pub some-size : {l : Layout} → LayoutKept l → 0 < l .size
 some-size lk = rw (lk .power .3) (pow-pos (lk .power .0))
 
+-- the least and the greatest size
+pub least-size : {l : Layout} → LayoutKept l → 256 ≤ l .size
+least-size lk = rw (lk .power .3) (pow-mono (lk .power .1))
+
+pub most-size : {l : Layout} → LayoutKept l → l .size ≤ 65536
+most-size lk = rw (lk .power .3) (pow-mono (lk .power .2))
+
 module _ {l : Layout} (lk : LayoutKept l) {p : Range} {x : ℕ} (f : Fits p x) where
   -- an address of the region stays as it is
   guarded-inside : l .base ≤ p .low → p .high ≤ l .base + l .size - 1 → guarded l x ≡ x

@@ -1,9 +1,9 @@
 -- Rule 10 on ends that are kept raised by 2^32: the code's two comparisons are the definition's. Assumes nothing.
 use Prim.Native.Nat.{ℕ, suc, _+_, _-_, _%_, _≤_, _<_}
-use mathlib.Core.Path.{_≡_, refl, sym, ap, ap₂, _∙_}
-use mathlib.Core.Bool.{Bool, true, false, _&&_}
+use mathlib.Core.Path.{_≡_, sym, ap, ap₂, _∙_}
+use mathlib.Core.Bool.{false, _&&_}
 use native.Mathlib.Omega.{arith}
-use borrow.Author.Tests.{le-leb, lt-leb, leb-true, ltb-true, ltb-false}
+use borrow.Author.Tests.{le-leb, lt-leb, ltb-true, ltb-false}
 use lib.Dec.{leb, ltb}
 use lib.IntN.{ℤ, pos, _+ℤ_, subℕ}
 use lib.Signed.{leZ}
@@ -18,7 +18,7 @@ use Rattle.model.specs.Ranges.{range, regionRange}
 use Rattle.model.specs.Instructions.{bytesOf}
 use Rattle.model.specs.Judgement.{isContained}
 use Rattle.model.specs.Rules.{LayoutKept}
-use Rattle.model.proofs.Tests.{by-cond}
+use Rattle.model.proofs.Tests.{by-cond, same-order}
 use Rattle.model.proofs.Values.{some-size}
 use Rattle.model.proofs.Containment.{few-bytes}
 use Rattle.verifier.specs.Standing.{wrappedRegion}
@@ -31,18 +31,6 @@ unwrapped {l} kept =
     (by-cond (λ (z : ℤ). (l .base + wrap z) % modulus ≡ l .base + l .size - 1) (ltb (l .size) 1)
     (λ less. omega (arith, some-size kept, ltb-true (l .size) 1 less))
     (λ least. omega (arith, some-size kept, kept .above)))
-
--- two comparisons that say the same
-same-order : (a b c d : ℕ) → (a ≤ b → c ≤ d) → (c ≤ d → a ≤ b) → leb a b ≡ leb c d
-same-order a b c d forth back = by-test (leb a b) refl
-  where
-    by-test : (t : Bool) → leb a b ≡ t → t ≡ leb c d
-    by-test true passed = sym (le-leb c d (forth (leb-true a b passed)))
-    by-test false failed = by-other (leb c d) refl
-      where
-        by-other : (s : Bool) → leb c d ≡ s → false ≡ s
-        by-other true passed = sym failed ∙ le-leb a b (back (leb-true c d passed))
-        by-other false still = refl
 
 -- an exact end against a natural number, and its raised form against that number raised
 at-least : (m n : ℕ) → leZ (pos m) (subℕ n modulus) ≡ leb (modulus + m) n

@@ -14,12 +14,14 @@ guard-asked : tie.Need-guard-requires
 guard-asked c κs = c .before .before .before .before .before .before .before .before .before .pre .loaded .kept .layout
 
 load-asked : tie.Need-load-requires
-load-asked c κs = small-pc (c .before .before .before .before .before .before .before .before .before .before .before .pre)
+load-asked c κs =
+    let ready = c .before .before .before .before .before .before .before .before .before .before .before .pre in
+    (ready .loaded .kept .layout, small-pc ready)
 
 store-asked : tie.Need-store-requires
 store-asked c κs =
     let ready = c .before .before .before .before .before .before .before .before .before .before .before .before .pre in
-    (small-pc ready, ready .room)
+    (ready .loaded .kept .layout, (small-pc ready, ready .room))
 
 jump-asked : tie.Need-jump-requires
 jump-asked c κs = rising (c .before .before .before .before .before .before .pre .loaded)

@@ -36,6 +36,7 @@ pub load-spec : {M : Type 1} → statement M
 load-spec =
     tie.close
     (tie.spec
-    (λ c κs. tt) (λ c κs. tt) (λ c. search needs) (λ c κs. tt) carry-asked (λ c κs. omega arith)
+    (λ c κs. tt) (λ c κs. c .before .before .pre .0) (λ c. search needs) (λ c. omega arith) (λ c κs. tt) carry-asked
+    (λ c κs. c .before .before .before .before .before .before .before .before .before .pre .1)
     (λ c. search needs) (λ c. search needs) on-inside on-guarded
     on-outside)

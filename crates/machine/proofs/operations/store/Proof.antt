@@ -13,7 +13,7 @@ write-asked c κs =
     let found = c .before .before .before .before .before in
     let judged = found .before .before in
     let start = judged .before .before in
-    inside-fits _ _ _ _ (sym (judged .reach-of .ensures) ∙ found .reached .given .1) (now (start .args .region)) (start .pre .1)
+    inside-fits _ _ _ _ (sym (judged .reach-of .ensures) ∙ found .reached .given .1) (now (start .args .region)) (start .pre .1 .1)
 
 on-stored : tie.Need-returns
 on-stored c rs =
@@ -39,7 +39,7 @@ pub store-spec : {M : Type 1} → statement M
 store-spec =
     tie.close
     (tie.spec
-    (λ c κs. tt) (λ c. search needs) (λ c κs. omega arith) (λ c. search needs)
-    write-asked (λ c. search needs) (λ c. search needs) (λ c. search needs)
+    (λ c κs. c .before .pre .0) (λ c. search needs) (λ c κs. c .before .before .before .before .before .pre .1 .0)
+    (λ c. search needs) (λ c. omega arith) write-asked (λ c. search needs) (λ c. search needs) (λ c. search needs)
     (λ c. search needs) on-stored on-no-next on-guarded
     on-outside)
