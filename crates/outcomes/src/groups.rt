@@ -5,6 +5,7 @@ use super::order;
 use super::range;
 use super::sample;
 use super::score::report;
+use super::space;
 use super::step;
 use super::worked;
 
@@ -48,6 +49,8 @@ const CLAIMS: u32 = 18;
 
 const CHAINS: u32 = 19;
 
+const SPACE: u32 = 20;
+
 fn case(score: &mut [u32; 4], group: u32, i: usize) {
     match group {
         RULE_B => range::rule_b(score, i),
@@ -69,6 +72,7 @@ fn case(score: &mut [u32; 4], group: u32, i: usize) {
         SAMPLES => sample::samples(score, i),
         WIDTHS => sample::widths(score, i),
         CLAIMS => worked::claims(score, i),
+        SPACE => space::accesses(score, i),
         _ => limit::chains(score, i),
     }
 }
@@ -99,6 +103,7 @@ pub(crate) fn groups() {
     group(b"room for the region", ROOMS, 6);
     group(b"accesses that are done", DONE, 17);
     group(b"accesses that end the run", ENDS, 27);
+    group(b"accesses at the ends of the address space", SPACE, 39);
     group(b"jumps, tests and values", OTHERS, 26);
     group(b"signed samples", SAMPLES, 26);
     group(b"widths of loads and stores", WIDTHS, 38);

@@ -19,6 +19,7 @@ mod random;
 mod range;
 mod sample;
 mod score;
+mod space;
 mod start;
 mod step;
 mod tally;

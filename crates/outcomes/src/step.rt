@@ -27,32 +27,32 @@ use super::score::roomed;
 use super::score::stepped;
 
 // How a run of one step ends.
-const TRAPPED: u32 = 1;
+pub const TRAPPED: u32 = 1;
 
 const TURNED: u32 = 2;
 
-const STRAYED: u32 = 3;
+pub const STRAYED: u32 = 3;
 
 pub const SPENT: u32 = 4;
 
 // What r2 holds before a load, and before most stores.
-const HELD: u32 = 2762187425;
+pub const HELD: u32 = 2762187425;
 
 // The region's first word, in most of these steps, and where it is in memory; the last is at LAST and holds the bytes 5,
 // 6, 7, 8.
 pub const FIRST: u32 = 100;
 
-const ONE_TO_FOUR: u32 = 67305985;
+pub const ONE_TO_FOUR: u32 = 67305985;
 
 const LAST: u32 = 352;
 
-const FIVE_TO_EIGHT: u32 = 134678021;
+pub const FIVE_TO_EIGHT: u32 = 134678021;
 
 // 3 instructions and 2 doors: 0 open, 1 inner.
 const LENGTH: usize = 181;
 
-fn write_module(buf: &mut [u8], x: Ins) {
-    layout(buf, DB, 256, 256);
+fn write_module(buf: &mut [u8], base: u32, guard: u32, x: Ins) {
+    layout(buf, base, 256, guard);
     headers(buf, 3, 2);
     instruction(buf, 0, x);
     door(buf, 3, 0, 0, 1);
@@ -66,10 +66,19 @@ fn fresh(first: u32) -> [u8; 400] {
     memory
 }
 
-// One step of x from this in r1 and r2 and in the region's first word.
-pub(crate) fn step(score: &mut [u32; 4], x: Ins, r1: u32, r2: u32, first: u32, after: After) {
+// One step of x, with such a base and guard, from this in r1 and r2 and in the region's first word.
+pub(crate) fn step_in(
+    score: &mut [u32; 4],
+    base: u32,
+    guard: u32,
+    x: Ins,
+    r1: u32,
+    r2: u32,
+    first: u32,
+    after: After,
+) {
     let mut buf = [0u8; 1024];
-    write_module(&mut buf, x);
+    write_module(&mut buf, base, guard, x);
     let mut left = fresh(first);
     let mut right = fresh(first);
     let mut memory = fresh(first);
@@ -84,7 +93,11 @@ pub(crate) fn step(score: &mut [u32; 4], x: Ins, r1: u32, r2: u32, first: u32, a
     );
 }
 
-fn access(op: u32, w: u32) -> Ins {
+pub(crate) fn step(score: &mut [u32; 4], x: Ins, r1: u32, r2: u32, first: u32, after: After) {
+    step_in(score, DB, 256, x, r1, r2, first, after);
+}
+
+pub(crate) fn access(op: u32, w: u32) -> Ins {
     Ins {
         op,
         a: 2,
@@ -281,7 +294,7 @@ pub(crate) fn rooms(score: &mut [u32; 4], i: usize) {
     let length = wide(row[0]) % 401;
     let offset = wide(row[1]);
     let mut buf = [0u8; 1024];
-    write_module(&mut buf, unary(CHECK, 1));
+    write_module(&mut buf, DB, 256, unary(CHECK, 1));
     let mut left = fresh(ONE_TO_FOUR);
     let mut right = fresh(ONE_TO_FOUR);
     let y = ours::run(

@@ -1,6 +1,7 @@
-//! How often each refusal, each ending, each turn of a verdict, each kind of signed load and each kind of claims that
-//! are worked out occurred, so that nothing is believed compared that never happened.
+//! How often each refusal, each ending, each turn of a verdict, each kind of signed load, of claims that are worked out
+//! and of single accesses occurred, so that nothing is believed compared that never happened.
 
+use crate::accesses::Accesses;
 use crate::counts::Counts;
 use crate::signed::{Seen, Signed};
 use crate::turns::Turns;
@@ -18,6 +19,7 @@ pub struct Tally {
     turns: Turns,
     signed: Signed,
     workings: Workings,
+    pub accesses: Accesses,
     /// Refusals by number; 0 counts what was not refused.
     read: Counts,
     verify: Counts,
@@ -77,7 +79,7 @@ impl Tally {
         }
     }
 
-    /// The refusals, endings, turns, kinds of signed loads and kinds of claims worked out that never occurred.
+    /// The refusals, endings, turns, and kinds of signed loads, of claims worked out and of accesses that never occurred.
     pub fn missing(&self) -> Vec<String> {
         let refusals = Rule::ALL.into_iter().filter(|rule| {
             let times = self.refusals(rule.number());
@@ -91,6 +93,7 @@ impl Tally {
             .chain(self.turns.missing())
             .chain(self.signed.missing())
             .chain(self.workings.missing())
+            .chain(self.accesses.missing())
             .collect()
     }
 
@@ -199,6 +202,7 @@ impl fmt::Display for Tally {
         self.workings.fmt(out)?;
         self.write_lists(out)?;
         self.signed.write_runs(out)?;
+        self.accesses.fmt(out)?;
         self.write_refusals(out)?;
         self.write_endings(out)
     }
