@@ -1,6 +1,5 @@
 -- `machine::access::reach_of` meets its contract: each way out is the definition's, by the two tests. Assumes nothing.
 use mathlib.Core.Path.{sym, _∙_}
-use native.Mathlib.Omega.{arith}
 use Rattle.machine.proofs.Reaching.{from-base, lies-inside, lies-guarded, lies-outside}
 use Rattle.machine.proofs.access.reach_of.Statement.{statement}
 use Rattle.machine.proofs.access.reach_of.Tie as tie
