@@ -60,23 +60,10 @@ module _ {l : Layout} (kept : LayoutKept l) (at : ℕ) (word : at < modulus) (w 
       by-distance (l .base) (l .size) (l .guard) (bytesOf w) at (kept .below) (kept .above) (some-bytes w)
       (omega (arith, few-bytes w, least-size kept)) word
 
-module _ (l : Layout) (at : ℕ) (w : Width) where
-  pub lies-inside : inRegion l at (bytesOf w) ≡ true → Inside (at - l .base) ≡ reachOf l at w
-  unfolding reachOf
-  lies-inside inside = rw inside
-
-  pub lies-guarded : inRegion l at (bytesOf w) ≡ false → inZones l at (bytesOf w) ≡ true → Guarded ≡ reachOf l at w
-  unfolding reachOf
-  lies-guarded past guarded = rw (past, guarded)
-
-  pub lies-outside : inRegion l at (bytesOf w) ≡ false → inZones l at (bytesOf w) ≡ false → Outside ≡ reachOf l at w
-  unfolding reachOf
-  lies-outside past beyond = rw (past, beyond)
-
-  -- what lies in the region lies at the base or above
-  pub from-base : inRegion l at (bytesOf w) ≡ true → l .base ≤ at
-  unfolding inRegion
-  from-base inside = leb-true (l .base) at (and-left _ _ inside)
+-- what lies in the region lies at the base or above
+pub from-base : (l : Layout) (at w : ℕ) → inRegion l at w ≡ true → l .base ≤ at
+unfolding inRegion
+from-base l at w inside = leb-true (l .base) at (and-left _ _ inside)
 
 -- ---- what is known of an access whose reach is known
 
@@ -116,9 +103,8 @@ module _ (l : Layout) (at : ℕ) (w : Width) where
     pub inside-fits : (bytes : List ℕ) → length bytes ≡ l .size → offset + bytesOf w ≤ length bytes
     unfolding inRegion
     inside-fits bytes room =
-        let starts : leb (l .base) at ≡ true = and-left _ _ (tested-inside .0) in
         let stops : leb (at + bytesOf w) (l .base + l .size) ≡ true = and-right (leb (l .base) at) _ (tested-inside .0) in
-        omega (arith, offset-is, leb-true (l .base) at starts, leb-true (at + bytesOf w) (l .base + l .size) stops)
+        omega (arith, offset-is, from-base l at (bytesOf w) (tested-inside .0), leb-true (at + bytesOf w) (l .base + l .size) stops)
 
 -- ---- moving bytes
 
