@@ -1,6 +1,6 @@
--- Claims exchanged with those of the table, register by register and target by target; exchanged twice, the bytes are as they were.
+-- Claims exchanged with those of the table, target by target; exchanged twice, the bytes are as they were.
 -- Assumes nothing.
-use Prim.Native.Nat.{ℕ, zero, suc, _+_, _*_, _≤_, _<_}
+use Prim.Native.Nat.{ℕ, zero, suc, _+_, _≤_, _<_}
 use mathlib.Core.Path.{_≡_, refl, sym, ap, _∙_}
 use mathlib.Core.Bool.{Bool, true, false, cond, true≢false}
 use mathlib.Core.List.{List, [], _∷_}
@@ -14,39 +14,21 @@ use lib.ListN.{length, getD, set, length-set}
 use lib.Seq.{getD-set-same, getD-set-other}
 use Rattle.model.specs.declared.Ranges.{Ranges}
 use Rattle.model.specs.declared.Target.{Target}
-use Rattle.model.specs.Words.{writeBytes}
-use Rattle.model.specs.Ranges.{low, high}
 use Rattle.model.specs.File.{tabulate, targetStart, targetKind, claimIn, targetIn}
 use Rattle.model.specs.Claims.{writeRanges, writeClaims}
-use Rattle.model.proofs.Steady.{writeBytes-length}
 use Rattle.model.proofs.Tabulate.{length-tabulate, map-tabulate}
 use Rattle.model.proofs.Tests.{by-cond, cond-true}
-use Rattle.model.proofs.Claims.OneClaim.{ranges-length, claim-elsewhere}
+use Rattle.model.proofs.Claims.OneClaim.{claim-elsewhere}
 use Rattle.model.proofs.Claims.AllClaims.{claims-length, claims-head, claims-restored}
 use Rattle.claims.specs.Exchanges.{claimAt, targetWith, targetsWith, Exchanged}
 
--- ---- one claim, register by register
-
--- where there is room, a number is written
-write-in-room : (x : ℕ) (bytes : List ℕ) (at : ℕ) → at + 4 ≤ length bytes
-    → cond (leb (at + 4) (length bytes)) (writeBytes 4 x bytes at) bytes ≡ writeBytes 4 x bytes at
-write-in-room x bytes at room = cond-true (leb (at + 4) (length bytes)) _ _ (le-leb _ _ room)
-
--- a register's two numbers, behind the ranges of the registers before it
-pub ranges-more : (k : Ranges) (at r : ℕ) (bytes : List ℕ) → at + 4 + 8 * (r + 1) ≤ length bytes
-    → {before half after : List ℕ} → before ≡ writeRanges r at k bytes
-    → half ≡ cond (leb (at + 4 + 8 * r + 4) (length before)) (writeBytes 4 (low k r) before (at + 4 + 8 * r)) before
-    → after ≡ cond (leb (at + 8 + 8 * r + 4) (length half)) (writeBytes 4 (high k r) half (at + 8 + 8 * r)) half
-    → after ≡ writeRanges (r + 1) at k bytes
-unfolding writeRanges
-ranges-more k at r bytes room {before} {half} is-before is-half is-after =
-    let before-length : length before ≡ length bytes = ap length is-before ∙ ranges-length k at bytes r in
-    let half-is = is-half ∙ write-in-room (low k r) before (at + 4 + 8 * r) (omega arith) in
-    let half-length : length half ≡ length before = ap length half-is ∙ writeBytes-length 4 (low k r) before (at + 4 + 8 * r) in
-    let after-is = is-after ∙ write-in-room (high k r) half (at + 8 + 8 * r) (omega arith) in
-    rw (add-one, after-is, half-is, is-before)
-
 -- ---- claims, target by target
+
+-- where the target is all there, its claim is written
+pub claim-in-room : (j : ℕ) {start : ℕ} (k : Ranges) (bytes : List ℕ) {after : List ℕ} → start ≡ targetStart j → targetStart j + 68 ≤ length bytes
+    → after ≡ cond (leb (start + 68) (length bytes)) (writeRanges 8 start k bytes) bytes → after ≡ writeRanges 8 (targetStart j) k bytes
+claim-in-room j {start} k bytes is-start room is-after =
+    is-after ∙ cond-true (leb (start + 68) (length bytes)) _ _ (le-leb (start + 68) (length bytes) (omega arith)) ∙ rw is-start
 
 abbrev written : Target → ℕ → List ℕ → List ℕ
 written t j bytes = cond (t .indirect) bytes (writeRanges 8 (targetStart j) (t .claim) bytes)

@@ -3,27 +3,9 @@ use crate::table::ROWS;
 use model::Ranges;
 use reader::target;
 ghost use mathlib.Core.Path.{_≡_};
-ghost use Prim.Native.Nat.{_+_, _*_, _≤_};
+ghost use Prim.Native.Nat.{_*_, _≤_};
 ghost use lib.ListN.{length};
-ghost use Rattle.model.specs.File.{targetStart};
-ghost use Rattle.model.specs.Claims.{writeRanges};
 ghost use Rattle.claims.specs.Exchanges.{Exchanged};
-
-// A claim over that of the target of a number.
-fn write_claim(targets: &mut [u8], j: u32, claim: Ranges)
-    requires { ⌜ targetStart j + 68 ≤ length (now targets) ⌝ }
-    ensures { λ r. ⌜ now (targets .exit) ≡ writeRanges 8 (targetStart j) claim (now (targets .entry)) ⌝ }
-{
-    let start = target::target_start(j);
-    let lows = claim.lows;
-    let highs = claim.highs;
-    let mut r = 0;
-    while r < 8 {
-        words::bytes::write_u32(targets, start + 4 + 8 * r, lows[r]);
-        words::bytes::write_u32(targets, start + 8 + 8 * r, highs[r]);
-        r += 1;
-    }
-}
 
 // The claims of the direct ones among the first k targets.
 pub(crate) fn exchange(
@@ -44,7 +26,7 @@ pub(crate) fn exchange(
                 lows: lows[j],
                 highs: highs[j],
             };
-            write_claim(targets, number, claim);
+            writer::target::write_claim(targets, target::target_start(number), claim);
             let came_lows = came.lows;
             let came_highs = came.highs;
             lows[j] = came_lows;

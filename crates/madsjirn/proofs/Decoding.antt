@@ -1,9 +1,10 @@
--- The numbers lose nothing: of every file and every call, the model's answer is read back from the numbers that the host gets.
+-- The numbers lose nothing: of every file, of all tables and of every call, the model's answer is read back from the numbers that the
+-- host gets.
 -- Every fault that is named has a number above 0, so refusal 0 is none. Assumes nothing.
 use Prim.Native.Nat.{ℕ, zero, suc, _≤_}
 use mathlib.Core.Path.{_≡_, refl}
 use mathlib.Core.Bool.{cond}
-use mathlib.Core.Logic.{⊎-elim}
+use mathlib.Core.Logic.{_⊎_, ⊎-elim}
 use mathlib.Core.List.{List}
 use mathlib.Core.Option.{Option, none, some}
 use native.Mathlib.Omega.{arith}
@@ -16,12 +17,14 @@ use Rattle.model.specs.Answers.{endingNumber, Judgement, accepted, refused}
 use Rattle.model.specs.File.{layoutIn, readable, programIn}
 use Rattle.model.specs.Judgement.{judgement}
 use Rattle.model.specs.Claims.{workOut}
+use Rattle.model.specs.Writer.{Tables, WriteReport, wrote, unwritten, write}
 use Rattle.model.specs.Run.{Run, run, stretch, finished, runnable, unlessRefused, runOn}
 use Rattle.model.proofs.Numbers.{readable-listed, judged-listed, refused-judged, runnable-listed}
 use Rattle.model.proofs.Claims.Answering.{worked-out-judged}
+use Rattle.model.proofs.Writer.Refusing.{writer-refuses}
 use Rattle.reader.specs.Readings.{readReport, readingBy, reading}
 use Rattle.madsjirn.specs.Entries.{NumbersCarried}
-use Rattle.madsjirn.specs.Numbers.{moduleNumbers, verdictNumbers, runNumbers, readingIn, judgementIn, endingIn, reportIn}
+use Rattle.madsjirn.specs.Numbers.{moduleNumbers, verdictNumbers, runNumbers, writeNumbers, readingIn, judgementIn, endingIn, reportIn, writeReportIn}
 
 -- a number above 0 is a refusal
 is-refusal : {A : Type 0} (n : ℕ) (otherwise refusal : A) → 1 ≤ n → cond (eqb n 0) otherwise refusal ≡ refusal
@@ -63,6 +66,18 @@ reading-carried file = by-fault (firstFault (readable file)) (readable-listed fi
     by-fault none above = refl
     by-fault (some f) above = is-refusal (f .number) _ _ (above f refl)
 
+written-carried : (t : Tables) (buffer : List ℕ) → writeReportIn (writeNumbers (write t buffer .report)) ≡ write t buffer .report
+unfolding writeReportIn writeNumbers
+written-carried t buffer = by-report (write t buffer .report) (λ f is. writer-refuses .numbered t buffer f is)
+  where
+    by-report : (r : WriteReport)
+        → ((f : Fault) → r ≡ unwritten f → (f .number ≡ 3) ⊎ (((5 ≤ f .number) × (f .number ≤ 7)) ⊎ (f .number ≡ 16)))
+        → writeReportIn (writeNumbers r) ≡ r
+    by-report (wrote n) listed = refl
+    by-report (unwritten f) listed =
+        is-refusal (f .number) _ _
+        (⊎-elim (λ e. omega arith) (⊎-elim (λ between. omega (arith, between .0)) (λ e. omega arith)) (listed f refl))
+
 ending-carried : (e : Ending) → endingIn (endingNumber e) ≡ e
 unfolding endingIn endingNumber
 ending-carried Halted = refl
@@ -99,5 +114,6 @@ numbers-carried = record {
   verdict = λ file. carried (judgement file) (verdict-numbered file);
   worked-out = λ file. carried (workOut file .judgement) (worked-numbered file);
   layout = reading-carried;
+  written = written-carried;
   call = report-carried;
 }

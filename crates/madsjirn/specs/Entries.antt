@@ -19,11 +19,12 @@ use Rattle.model.specs.Claims.{workOut}
 use Rattle.model.specs.Run.{Seen, RunPost, runOn}
 use Rattle.model.specs.Walk.{Call, hostWrites}
 use Rattle.model.specs.Safety.{EightWords, Bytes, Safe}
+use Rattle.model.specs.Writer.{Tables, write}
 use Rattle.reader.specs.Readings.{reading}
 use Rattle.machine.specs.Core.{seenOf}
 use Rattle.madsjirn.specs.declared.answers.RunAnswer.{RunAnswer}
 use Rattle.madsjirn.specs.declared.answers.VerdictAnswer.{VerdictAnswer}
-use Rattle.madsjirn.specs.Numbers.{moduleNumbers, verdictNumbers, runNumbers, readingIn, judgementIn, reportIn, Leaves, LeavesFile}
+use Rattle.madsjirn.specs.Numbers.{moduleNumbers, verdictNumbers, runNumbers, writeNumbers, readingIn, judgementIn, reportIn, writeReportIn, Leaves, LeavesFile}
 
 -- a verdict that lets a module in: what `verifier::verify::verify` ensures of an answer that is accepted, or `madsjirn_verify` of one
 -- whose refusal is 0; and of the file that they leave, what `claims::work_out::work_out` and `madsjirn_work_out` ensure of theirs:
@@ -61,11 +62,13 @@ pub record HostedAnswers : Type 0 where
   pub let-in : (file : List ℕ) → firstBroken file ≡ none → LetIn file
   pub answers : (file : List ℕ) (m : Machine) (memory : List ℕ) (calls : List Call) → (seen : List Seen) × Hosted file m memory calls seen
 
--- The numbers lose nothing: of every file and every call the model's answer is read back from the numbers that a host gets.
+-- The numbers lose nothing: of every file, of all tables and of every call the model's answer is read back from the numbers that a host
+-- gets.
 pub record NumbersCarried : Type 0 where
   pub verdict : (file : List ℕ) → judgementIn (verdictNumbers (judgement file)) ≡ judgement file
   pub worked-out : (file : List ℕ) → judgementIn (verdictNumbers (workOut file .judgement)) ≡ workOut file .judgement
   pub layout : (file : List ℕ) → readingIn (moduleNumbers (reading file)) ≡ reading file
+  pub written : (t : Tables) (buffer : List ℕ) → writeReportIn (writeNumbers (write t buffer .report)) ≡ write t buffer .report
   pub call : (file : List ℕ) (m : Machine) (memory : List ℕ) (offset budget : ℕ)
       → reportIn (runNumbers (runOn file m memory offset budget .report)) ≡ runOn file m memory offset budget .report
 

@@ -12,11 +12,13 @@ use Rattle.model.specs.Obligations.{fault}
 use Rattle.model.specs.Answers.{endingNumber, Judgement, accepted, refused, Report, ended, rejected}
 use Rattle.model.specs.Claims.{Answered}
 use Rattle.model.specs.Run.{Seen}
+use Rattle.model.specs.Writer.{WriteReport, wrote, unwritten, Written}
 use Rattle.reader.specs.Readings as Readings
 use Rattle.reader.specs.Readings.{ReadReport}
 use Rattle.madsjirn.specs.declared.answers.ModuleAnswer.{ModuleAnswer}
 use Rattle.madsjirn.specs.declared.answers.VerdictAnswer.{VerdictAnswer}
 use Rattle.madsjirn.specs.declared.answers.RunAnswer.{RunAnswer}
+use Rattle.madsjirn.specs.declared.answers.WriteAnswer.{WriteAnswer}
 
 -- ---- to numbers: refusal 0 is none, and of a refusal all but its number and place is 0; a refused run has the ending 5
 
@@ -48,6 +50,10 @@ unfoldable pub runNumbers : Report → RunAnswer
 runNumbers (ended e steps) = record { refusal = 0; place = 0; ending = endingNumber e; steps = steps }
 runNumbers (rejected f steps) = record { refusal = f .number; place = f .place; ending = 5; steps = steps }
 
+unfoldable pub writeNumbers : WriteReport → WriteAnswer
+writeNumbers (wrote n) = record { refusal = 0; place = 0; length = n }
+writeNumbers (unwritten f) = record { refusal = f .number; place = f .place; length = 0 }
+
 -- what a host has after a call, where the model says what is seen of it: the answer's numbers, the machine and every byte of memory
 pub record Leaves (seen : Seen) (answer : RunAnswer) (machine : Machine) (memory : List ℕ) : Type 0 where
   pub numbers : answer ≡ runNumbers (seen .report)
@@ -59,6 +65,11 @@ pub record LeavesFile (answered : Answered) (answer : VerdictAnswer) (file : Lis
   pub numbers : answer ≡ verdictNumbers (answered .judgement)
   pub file-is : file ≡ answered .bytes
 
+-- what a host has after tables are written: the answer's numbers and every byte of the buffer
+pub record LeavesBuffer (written : Written) (answer : WriteAnswer) (buffer : List ℕ) : Type 0 where
+  pub numbers : answer ≡ writeNumbers (written .report)
+  pub buffer-is : buffer ≡ written .buffer
+
 -- ---- from numbers (`NumbersCarried` in Entries says that nothing is lost)
 
 unfoldable pub readingIn : ModuleAnswer → ReadReport
@@ -69,6 +80,9 @@ readingIn a =
 
 unfoldable pub judgementIn : VerdictAnswer → Judgement
 judgementIn a = cond (eqb (a .refusal) 0) (accepted (a .instructions) (a .targets)) (refused (fault (a .refusal) (a .place)))
+
+unfoldable pub writeReportIn : WriteAnswer → WriteReport
+writeReportIn a = cond (eqb (a .refusal) 0) (wrote (a .length)) (unwritten (fault (a .refusal) (a .place)))
 
 unfoldable pub endingIn : ℕ → Ending
 endingIn n = getD (Halted ∷ Trapped ∷ Denied ∷ Violated ∷ OutOfBudget ∷ []) n Halted

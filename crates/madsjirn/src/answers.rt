@@ -1,14 +1,16 @@
-// The answers that a host gets, as plain numbers with C's layout. In each, refusal is 0 for none, or else document 01's number with
-// the refusal's place, and what there is nothing to say of is 0.
+// The answers that a host gets, as plain numbers with C's layout. In each, refusal is 0 for none, or else the refusal's number with its
+// place, and what there is nothing to say of is 0.
 use model::Answer;
 use model::Completion;
 use model::Steps;
 use model::Verdict;
 use reader::read::Parsed;
+use writer::write::Written;
 ghost use mathlib.Core.Path.{_≡_};
 ghost use Rattle.model.specs.Answers.{judgementOf, reportOf};
 ghost use Rattle.reader.specs.Readings.{readingOf};
-ghost use Rattle.madsjirn.specs.Numbers.{moduleNumbers, verdictNumbers, runNumbers};
+ghost use Rattle.writer.specs.Reports as Reports;
+ghost use Rattle.madsjirn.specs.Numbers.{moduleNumbers, verdictNumbers, runNumbers, writeNumbers};
 
 // Of a module that is read: its layout, and how many instructions and targets it has.
 #[repr(C)]
@@ -39,6 +41,14 @@ pub struct RunAnswer {
     pub place: u32,
     pub ending: u32,
     pub steps: Steps,
+}
+
+// Of tables that are written: how many bytes the file has.
+#[repr(C)]
+pub struct WriteAnswer {
+    pub refusal: u32,
+    pub place: u32,
+    pub length: u32,
 }
 
 // The ending of a refused run.
@@ -118,6 +128,26 @@ pub fn run_answer(answer: Answer) -> RunAnswer
                 place: refusal.place,
                 ending: NOT_RUN,
                 steps: answer.steps,
+            }
+        }
+    }
+}
+
+pub fn write_answer(written: Written) -> WriteAnswer
+    ensures { λ r. ⌜ r ≡ writeNumbers (Reports.reportOf written) ⌝ }
+{
+    match written {
+        Written::Length { length } => WriteAnswer {
+            refusal: 0,
+            place: 0,
+            length,
+        },
+        Written::Refused { refusal } => {
+            let rule = refusal.rule;
+            WriteAnswer {
+                refusal: model::rule_number(rule),
+                place: refusal.place,
+                length: 0,
             }
         }
     }

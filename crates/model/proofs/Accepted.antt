@@ -3,18 +3,19 @@
 use Prim.Native.Nat.{ℕ, _<_}
 use mathlib.Core.Path.{_≡_}
 use mathlib.Core.Bool.{Bool}
-use mathlib.Core.Logic.{_↔_, Iff·trans}
+use mathlib.Core.Logic.{_↔_, Iff·trans, Iff·symm}
 use mathlib.Core.List.{List}
-use mathlib.Core.Option.{none, some}
+use mathlib.Core.Option.{Option, none, some}
 use native.Mathlib.Omega.{arith}
 use lib.ListN.{length}
+use Rattle.model.specs.declared.Instruction.{Instruction}
 use Rattle.model.specs.declared.Layout.{Layout}
 use Rattle.model.specs.declared.Machine.{Machine}
 use Rattle.model.specs.Obligations.{Fault, firstFault, AllMet, FirstUnmet}
 use Rattle.model.specs.Program.{Program}
-use Rattle.model.specs.File.{mostInstructions, mostTargets, isListed, field, codeStart, targetsAt, codeIn, targetsIn, instructionCount, targetCount, layoutIn, instructionRules, targetRules, moduleRules, readableBy, readable, sweepable, programIn}
+use Rattle.model.specs.File.{mostInstructions, mostTargets, isListed, field, codeStart, targetsAt, codeIn, targetsIn, instructionCount, targetCount, layoutIn, instructionIn, TargetRow, targetRowIn, instructionRules, targetRules, tableRules, moduleRules, readableBy, readable, sweepable, programIn}
 use Rattle.model.specs.Judgement.{atIndex, verified, obligations, firstBroken}
-use Rattle.model.specs.Rules.{FieldKept, SomeOf, InstructionKept, ModuleHolds, FileHolds, FileKept, FilePlaced, IndexKept, KeepsEveryRule, Runnable}
+use Rattle.model.specs.Rules.{FieldKept, SomeOf, LayoutKept, InstructionKept, ModuleHolds, FileHolds, FileKept, FilePlaced, IndexKept, KeepsEveryRule, Runnable}
 use Rattle.model.specs.Run.{runnable}
 use Rattle.model.proofs.Obligations.{none-iff-met, first-unmet, append-met, append-fault, each-met, each-one}
 use Rattle.model.proofs.Reflection.{Reflects, le-reflects, lt-reflects, eq-reflects, multiple-reflects}
@@ -22,33 +23,52 @@ use Rattle.model.proofs.FileRules.{field-kept, layout-reflects, instruc
 use Rattle.model.proofs.CodeRules.{index-kept}
 
 -- what is asked of a target is met exactly if a rule is kept
-abbrev pub Judges : (ℕ → List ℕ → ℕ → Bool) → (ℕ → List ℕ → ℕ → Type 0) → Type 0
-Judges good Good = (n : ℕ) (targets : List ℕ) (j : ℕ) → Reflects (good n targets j) (Good n targets j)
+abbrev pub Judges : (ℕ → (ℕ → TargetRow) → ℕ → Bool) → (ℕ → (ℕ → TargetRow) → ℕ → Type 0) → Type 0
+Judges good Good = (n : ℕ) (target : ℕ → TargetRow) (j : ℕ) → Reflects (good n target j) (Good n target j)
 
-module _ {good : ℕ → List ℕ → ℕ → Bool} {Good : ℕ → List ℕ → ℕ → Type 0} (judges : Judges good Good) where
+-- rules 5 and 6, and of each target what is given, wherever instructions and targets stand; and so in a module
+pub record TablesHold (Good : ℕ → (ℕ → TargetRow) → ℕ → Type 0) (l : Layout) (n : ℕ) (decodes : ℕ → Option Instruction) (k : ℕ)
+    (target : ℕ → TargetRow) : Type 0 where
+  pub layout : LayoutKept l
+  pub each-instruction : (i : ℕ) → i < n → InstructionKept (decodes i)
+  pub each-target : (j : ℕ) → j < k → Good n target j
+
+pub module-tables : (Good : ℕ → (ℕ → TargetRow) → ℕ → Type 0) (l : Layout) (code targets : List ℕ)
+    → ModuleHolds Good l code targets
+    ↔ TablesHold Good l (instructionCount code) (instructionIn code) (targetCount targets) (targetRowIn targets)
+module-tables Good l code targets = (
+  λ h. record { layout = h .layout; each-instruction = h .each-instruction; each-target = h .each-target },
+  λ h. record { layout = h .layout; each-instruction = h .each-instruction; each-target = h .each-target },
+)
+
+module _ {good : ℕ → (ℕ → TargetRow) → ℕ → Bool} {Good : ℕ → (ℕ → TargetRow) → ℕ → Type 0} (judges : Judges good Good) where
   -- rules 5 and 6, and that one
-  module-iff : (l : Layout) (code targets : List ℕ) → AllMet (moduleRules good l code targets) ↔ ModuleHolds Good l code targets
-  module-iff l code targets = (
+  pub tables-iff : (l : Layout) (n : ℕ) (decodes : ℕ → Option Instruction) (k : ℕ) (target : ℕ → TargetRow)
+      → AllMet (tableRules good l n decodes k target) ↔ TablesHold Good l n decodes k target
+  tables-iff l n decodes k target = (
     λ h.
-        let tables = append-met (instructionRules code) (targetRules (good (instructionCount code) targets) targets) .0 (h .1) in
+        let tables = append-met (instructionRules n decodes) _ .0 (h .1) in
         record {
           layout = layout-reflects l .0 (h .0);
           each-instruction = instructions-part .0 (tables .0);
           each-target = targets-part .0 (tables .1);
         },
-    λ k. (
-      layout-reflects l .1 (k .layout),
-      append-met (instructionRules code) (targetRules (good (instructionCount code) targets) targets) .1
-          (instructions-part .1 (k .each-instruction), targets-part .1 (k .each-target)),
+    λ holds. (
+      layout-reflects l .1 (holds .layout),
+      append-met (instructionRules n decodes) _ .1 (instructions-part .1 (holds .each-instruction), targets-part .1 (holds .each-target)),
     ),
   )
     where
-      instructions-part : AllMet (instructionRules code) ↔ ((i : ℕ) → i < instructionCount code → InstructionKept code i)
-      instructions-part = each-one (instructionCount code) 6 (instruction-reflects code)
+      instructions-part : AllMet (instructionRules n decodes) ↔ ((i : ℕ) → i < n → InstructionKept (decodes i))
+      instructions-part = each-one n 6 (λ i. instruction-reflects (decodes i))
 
-      targets-part : AllMet (targetRules (good (instructionCount code) targets) targets)
-          ↔ ((j : ℕ) → j < targetCount targets → Good (instructionCount code) targets j)
-      targets-part = each-one (targetCount targets) 7 (judges (instructionCount code) targets)
+      targets-part : AllMet (targetRules k (good n target)) ↔ ((j : ℕ) → j < k → Good n target j)
+      targets-part = each-one k 7 (judges n target)
+
+  module-iff : (l : Layout) (code targets : List ℕ) → AllMet (moduleRules good l code targets) ↔ ModuleHolds Good l code targets
+  module-iff l code targets =
+      Iff·trans (tables-iff l (instructionCount code) (instructionIn code) (targetCount targets) (targetRowIn targets))
+      (Iff·symm (module-tables Good l code targets))
 
   -- rules 1 to 4 besides
   pub holds-iff : (file : List ℕ) → (firstFault (readableBy good file) ≡ none) ↔ FileHolds Good file

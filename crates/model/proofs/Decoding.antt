@@ -15,16 +15,22 @@ use Rattle.model.proofs.Claims.Each.{IfThere}
 use Rattle.model.proofs.Registers.{read-below}
 use Rattle.model.proofs.Tabulate.{tabulate-everywhere}
 
--- it holds of every row that is an instruction
+-- it holds of every row that is an instruction, and of its opcode
 infixr 5 _then_
-pub data Rows (P : Instruction → Type 0) : List (Option Instruction) → Type 0 where
-  no-more : Rows P []
-  _then_ : {row : Option Instruction} {more : List (Option Instruction)} → IfThere P row → Rows P more → Rows P (row ∷ more)
+pub data NumberedRows : (ℕ → Instruction → Type 0) → List (Option Instruction) → Type 1 where
+  no-more : {P : ℕ → Instruction → Type 0} → NumberedRows P []
+  _then_ : {P : ℕ → Instruction → Type 0} {row : Option Instruction} {more : List (Option Instruction)}
+      → IfThere (P 0) row → NumberedRows (λ op. P (suc op)) more → NumberedRows P (row ∷ more)
 
-row-at : {P : Instruction → Type 0} {table : List (Option Instruction)} → Rows P table → (op : ℕ) → IfThere P (getD table op none)
+pub row-at : {P : ℕ → Instruction → Type 0} {table : List (Option Instruction)} → NumberedRows P table → (op : ℕ)
+    → IfThere (P op) (getD table op none)
 row-at no-more op = tt
 row-at (row then more) zero = row
 row-at (row then more) (suc op) = row-at more op
+
+-- whatever its opcode
+abbrev pub Rows : (Instruction → Type 0) → List (Option Instruction) → Type 1
+Rows P table = NumberedRows (λ op. P) table
 
 module _ (P : Instruction → Type 0) where
   pub provided-row : (test : Bool) (row : Option Instruction) → (test ≡ true → IfThere P row) → IfThere P (provided test row)

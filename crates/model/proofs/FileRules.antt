@@ -9,11 +9,10 @@ use native.Mathlib.Omega.{arith}
 use native.Mathlib.Nat.{div-add-mod', mul-mod-left}
 use Rattle.model.specs.declared.Instruction.{Instruction}
 use Rattle.model.specs.declared.Layout.{Layout}
-use Rattle.model.specs.Quantifiers.{anyOf}
 use Rattle.model.specs.Words.{modulus}
 use Rattle.model.specs.Obligations.{AllMet}
 use Rattle.model.specs.Ranges.{low, high}
-use Rattle.model.specs.File.{byteAt, isListed, field, fieldLength, isLayout, isInstruction, instructionIn, targetStart, targetIndex, targetKind, claimIn, isInOrder, isPlacedTarget, isGoodTarget}
+use Rattle.model.specs.File.{isListed, field, fieldLength, isLayout, isInstruction, TargetRow, isInOrder, isPlacedTarget, isGoodTarget}
 use Rattle.model.specs.Rules.{FieldKept, LayoutKept, InstructionKept, TargetPlaced, TargetKept}
 use Rattle.model.proofs.Reflection.{Reflects, le-reflects, lt-reflects, eq-reflects, and-reflects, implies-reflects, allBelow-reflects, anyBelow-reflects}
 
@@ -64,35 +63,31 @@ layout-reflects l =
     divides (q, e) = ap (λ (x : ℕ). x % l .size) e ∙ mul-mod-left q (l .size)
 
 -- rule 6
-pub instruction-reflects : (code : List ℕ) (i : ℕ) → Reflects (isInstruction code i) (InstructionKept code i)
-instruction-reflects code i = present (instructionIn code i)
-  where
-    present : (o : Option Instruction) → Reflects (anyOf o (λ x. true)) ((x : Instruction) × (o ≡ some x))
-    present none = (λ e. absurd (false≢true e), λ w. absurd (Option·none-ne-some (w .0) (w .1)))
-    present (some x) = (λ e. (x, refl), λ w. refl)
+pub instruction-reflects : (decodes : Option Instruction) → Reflects (isInstruction decodes) (InstructionKept decodes)
+instruction-reflects none = (λ e. absurd (false≢true e), λ w. absurd (Option·none-ne-some (w .0) (w .1)))
+instruction-reflects (some x) = (λ e. (x, refl), λ w. refl)
 
 -- rule 7
-order-reflects : (targets : List ℕ) (j : ℕ)
-    → Reflects (isInOrder targets j)
-    ((j ≡ 0 → (targetIndex targets 0 ≡ 0) × (targetKind targets 0 ≡ 1))
-    × ((i : ℕ) → j ≡ suc i → targetIndex targets i < targetIndex targets (suc i)))
-order-reflects targets zero =
+order-reflects : (target : ℕ → TargetRow) (j : ℕ)
+    → Reflects (isInOrder target j)
+    ((j ≡ 0 → (target 0 .index ≡ 0) × (target 0 .kind ≡ 1)) × ((i : ℕ) → j ≡ suc i → target i .index < target (suc i) .index))
+order-reflects target zero =
     Iff·trans (and-reflects (eq-reflects _ _) (eq-reflects _ _))
     (λ h. (λ _. h, λ i q. absurd (omega arith)), λ h. h .0 refl)
-order-reflects targets (suc j) =
+order-reflects target (suc j) =
     Iff·trans (lt-reflects _ _)
     (λ h. (λ q. absurd (omega arith), λ i q. let same : j ≡ i = omega arith in rw same at h), λ h. h .1 j refl)
 
-pub placed-reflects : (n : ℕ) (targets : List ℕ) (j : ℕ) → Reflects (isPlacedTarget n targets j) (TargetPlaced n targets j)
+pub placed-reflects : (n : ℕ) (target : ℕ → TargetRow) (j : ℕ) → Reflects (isPlacedTarget n target j) (TargetPlaced n target j)
 unfolding isPlacedTarget
-placed-reflects n targets j =
+placed-reflects n target j =
     Iff·trans
     (and-reflects (and-reflects (and-reflects (and-reflects
-    (lt-reflects (targetIndex targets j) n)
-    (lt-reflects (targetKind targets j) 2))
-    (eq-reflects (byteAt targets (targetStart j + 3)) 0))
-    (implies-reflects (eq-reflects (targetKind targets j) 1) (allBelow-reflects 8 (λ r. and-reflects (eq-reflects _ _) (eq-reflects _ _)))))
-    (order-reflects targets j)) (
+    (lt-reflects (target j .index) n)
+    (lt-reflects (target j .kind) 2))
+    (eq-reflects (target j .zero-byte) 0))
+    (implies-reflects (eq-reflects (target j .kind) 1) (allBelow-reflects 8 (λ r. and-reflects (eq-reflects _ _) (eq-reflects _ _)))))
+    (order-reflects target j)) (
       λ h. record {
         inside = h .0 .0 .0 .0;
         kind = h .0 .0 .0 .1;
@@ -104,10 +99,10 @@ placed-reflects n targets j =
       λ k. ((((k .inside, k .kind), k .zero-byte), k .indirect), (k .first, k .rising)),
     )
 
-pub target-reflects : (n : ℕ) (targets : List ℕ) (j : ℕ) → Reflects (isGoodTarget n targets j) (TargetKept n targets j)
+pub target-reflects : (n : ℕ) (target : ℕ → TargetRow) (j : ℕ) → Reflects (isGoodTarget n target j) (TargetKept n target j)
 unfolding isGoodTarget
-target-reflects n targets j =
+target-reflects n target j =
     Iff·trans
-    (and-reflects (placed-reflects n targets j)
-    (allBelow-reflects 8 (λ r. le-reflects (low (claimIn targets j) r) (high (claimIn targets j) r))))
+    (and-reflects (placed-reflects n target j)
+    (allBelow-reflects 8 (λ r. le-reflects (low (target j .claim) r) (high (target j .claim) r))))
     (λ h. record { placed = h .0; ordered = h .1 }, λ k. (k .placed, k .ordered))

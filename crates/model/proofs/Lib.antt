@@ -28,4 +28,5 @@ pub mod Numbers
 pub mod Rows
 pub mod Line
 pub mod Claims
+pub mod Writer
 pub mod Promises

@@ -7,20 +7,22 @@ use mathlib.Core.Logic.{_⊎_, inl, inr}
 use mathlib.Core.List.{List, [], _∷_, _++_}
 use mathlib.Core.Option.{Option, none, some, Option·none-ne-some, Option·some-injective}
 use native.Mathlib.Omega.{arith}
+use Rattle.model.specs.declared.Instruction.{Instruction}
+use Rattle.model.specs.declared.Layout.{Layout}
 use Rattle.model.specs.declared.Machine.{Machine}
 use Rattle.model.specs.Obligations.{Fault, Obligation, faultUnless, firstFault, eachFrom}
 use Rattle.model.specs.Answers.{refused, rejected}
-use Rattle.model.specs.File.{codeStart, targetsAt, codeIn, targetsIn, instructionCount, targetCount, instructionRules, field, layoutIn, readableBy, readable, sweepable, programIn}
+use Rattle.model.specs.File.{codeStart, targetsAt, codeIn, targetsIn, instructionCount, targetCount, instructionIn, TargetRow, targetRowIn, instructionRules, tableRules, field, layoutIn, readableBy, readable, sweepable, programIn}
 use Rattle.model.specs.Judgement.{beforeNext, atIndex, verified, obligations, firstBroken, concluded, judgement}
 use Rattle.model.specs.Run.{Run, run, stretch, Seen, finished, runnable, unlessRefused, runOn}
 use Rattle.model.specs.Promises.{RefusalsListed, RefusalKeeps}
 
 module _ (P : ℕ → Type 0) where
-  abbrev Numbered : List Obligation → Type 0
+  abbrev pub Numbered : List Obligation → Type 0
   Numbered [] = Unit {0}
   Numbered (o ∷ os) = P (o .fault .number) × Numbered os
 
-  append-numbered : (xs ys : List Obligation) → Numbered xs → Numbered ys → Numbered (xs ++ ys)
+  pub append-numbered : (xs ys : List Obligation) → Numbered xs → Numbered ys → Numbered (xs ++ ys)
   append-numbered [] ys hx hy = hy
   append-numbered (x ∷ xs) ys hx hy = (hx .0, append-numbered xs ys (hx .1) hy)
 
@@ -29,7 +31,7 @@ module _ (P : ℕ → Type 0) where
   each-numbered i zero f h = tt
   each-numbered i (suc n) f h = append-numbered (f i) (eachFrom (suc i) n f) (h i) (each-numbered (suc i) n f h)
 
-  first-numbered : (os : List Obligation) (f : Fault) → Numbered os → firstFault os ≡ some f → P (f .number)
+  pub first-numbered : (os : List Obligation) (f : Fault) → Numbered os → firstFault os ≡ some f → P (f .number)
   unfolding firstFault
   first-numbered [] f h e = absurd (Option·none-ne-some f e)
   first-numbered (o ∷ os) f h e = by-head (o .met) (λ r. first-numbered os f (h .1) r) e
@@ -39,6 +41,16 @@ module _ (P : ℕ → Type 0) where
       by-head true later r = later r
       by-head false later r = rw (Option·some-injective (o .fault) f r) at (h .0)
 
+  -- 5, 6 and 7
+  module _ (layout : P 5) (instruction : P 6) (target : P 7) where
+    pub tables-numbered : (good : ℕ → (ℕ → TargetRow) → ℕ → Bool) (l : Layout) (n : ℕ) (decodes : ℕ → Option Instruction)
+        (k : ℕ) (targets : ℕ → TargetRow) → Numbered (tableRules good l n decodes k targets)
+    tables-numbered good l n decodes k targets = (
+      layout,
+      append-numbered (instructionRules n decodes) _ (each-numbered 0 n _ (λ i. (instruction, tt)))
+          (each-numbered 0 k _ (λ j. (target, tt))),
+    )
+
   -- refusals 1 to 7
   module _ (low : (n : ℕ) → 1 ≤ n → n ≤ 7 → P n) where
     field-numbered : (file : List ℕ) (at tag : ℕ) → Numbered (field file at tag)
@@ -46,19 +58,16 @@ module _ (P : ℕ → Type 0) where
     field-numbered file at tag =
         (low 1 (omega arith) (omega arith), (low 2 (omega arith) (omega arith), (low 3 (omega arith) (omega arith), (low 1 (omega arith) (omega arith), tt))))
 
-    readable-numbered : (good : ℕ → List ℕ → ℕ → Bool) (file : List ℕ) → Numbered (readableBy good file)
+    readable-numbered : (good : ℕ → (ℕ → TargetRow) → ℕ → Bool) (file : List ℕ) → Numbered (readableBy good file)
     unfolding readableBy
     readable-numbered good file =
         append-numbered (field file 0 1) _ (field-numbered file 0 1)
         (append-numbered (field file codeStart 2) _ (field-numbered file codeStart 2)
         (append-numbered (field file (targetsAt file) 3) _ (field-numbered file (targetsAt file) 3) (
           low 4 (omega arith) (omega arith),
-          (
-            low 5 (omega arith) (omega arith),
-            append-numbered (instructionRules (codeIn file)) _
-                (each-numbered 0 (instructionCount (codeIn file)) _ (λ i. (low 6 (omega arith) (omega arith), tt)))
-                (each-numbered 0 (targetCount (targetsIn file)) _ (λ j. (low 7 (omega arith) (omega arith), tt))),
-          ),
+          tables-numbered (low 5 (omega arith) (omega arith)) (low 6 (omega arith) (omega arith)) (low 7 (omega arith) (omega arith))
+              good (layoutIn file) (instructionCount (codeIn file)) (instructionIn (codeIn file)) (targetCount (targetsIn file))
+              (targetRowIn (targetsIn file)),
         )))
 
 -- the verifier's, 1 to 13

@@ -22,6 +22,7 @@ use Rattle.model.specs.Safety.{InZones}
 use Rattle.model.specs.Outcomes as Outcomes
 use Rattle.model.specs.Walks as Walks
 use Rattle.model.specs.Worked as Worked
+use Rattle.model.specs.Wrote as Wrote
 use Rattle.model.specs.Promises.{AcceptedIff, RunIff, RefusalFirst, LongFiles, StepsSteady, CallsJoin, KnownOutcomes, KnownRequests, ZonesAgree, CallsAnswer, KnownWalks}
 use Rattle.model.proofs.Tests.{by-cond}
 use Rattle.model.proofs.Reflection.{Reflects, le-reflects, and-reflects}
@@ -93,12 +94,14 @@ unfolding Outcomes.table Outcomes.numbers every agrees
 known-outcomes = record { compares = λ n given expected same. same; agree = all-agree Outcomes.table refl; complete = refl }
 
 pub known-requests : KnownRequests
-unfolding Outcomes.requests Worked.table Outcomes.numbers every agrees
+unfolding Outcomes.requests Worked.table Wrote.table Outcomes.numbers every agrees
 known-requests = record {
   agree = all-agree Outcomes.requests refl;
   complete = refl;
   worked = all-agree Worked.table refl;
   worked-complete = refl;
+  written = all-agree Wrote.table refl;
+  written-complete = refl;
 }
 
 -- ---- demand 3's terms

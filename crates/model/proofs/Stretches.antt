@@ -11,7 +11,7 @@ use lib.Dec.{ltb}
 use lib.ListN.{length, getD, take, drop, length-drop, length-take, List·getD-eq-default}
 use lib.Seq.{getD-take, getD-drop, length-take-le, take-all}
 use Rattle.model.specs.Obligations.{Fault, firstFault}
-use Rattle.model.specs.File.{fieldLength, valueAt, fieldEnd, mostInstructions, mostTargets, isListed, field, unlessFault, fieldValue, codeStart, targetsAt, codeIn, targetsIn, targetCount}
+use Rattle.model.specs.File.{fieldLength, valueAt, fieldEnd, mostInstructions, mostTargets, isListed, field, unlessFault, fieldValue, codeStart, targetsAt, codeIn, targetsIn, targetCount, TargetRow}
 use Rattle.model.specs.Rules.{FieldKept, SomeOf, FileHolds}
 use Rattle.model.proofs.Obligations.{none-iff-met}
 use Rattle.model.proofs.Reflection.{Reflects, eq-reflects, multiple-reflects}
@@ -28,6 +28,10 @@ module _ (file : List ℕ) (at tag : ℕ) where
   value-length listed kept =
       ap length (value-stretch (none-iff-met (field file at tag) .1 (field-kept file at tag listed .1 kept)))
       ∙ length-take-le (fieldLength file at) (drop (valueAt at) file) (simp length-drop (omega (arith, kept .value)))
+
+  pub value-listed : {Listed : ℕ → Type 0} → ((n : ℕ) → Reflects (isListed tag n) (Listed n)) → FieldKept file at tag Listed
+      → Listed (length (fieldValue file at tag))
+  value-listed listed kept = rw (value-length listed kept) (kept .listed)
 
   -- where the file ends with it, all that stands behind its header
   pub value-rest : {Listed : ℕ → Type 0} → ((n : ℕ) → Reflects (isListed tag n) (Listed n)) → FieldKept file at tag Listed
@@ -66,13 +70,13 @@ unfolding isListed
 targets-listed n = multiple-reflects 68 mostTargets n (omega arith)
 
 -- what rules 1 to 4 say of them, whatever is asked of a target
-module _ {Good : ℕ → List ℕ → ℕ → Type 0} (file : List ℕ) (kept : FileHolds Good file) where
+module _ {Good : ℕ → (ℕ → TargetRow) → ℕ → Type 0} (file : List ℕ) (kept : FileHolds Good file) where
   -- the code has whole instructions, and the targets' bytes whole targets
   pub code-whole : SomeOf 8 mostInstructions (length (codeIn file))
-  code-whole = rw (value-length file codeStart 2 code-listed (kept .code-field)) (kept .code-field .listed)
+  code-whole = value-listed file codeStart 2 code-listed (kept .code-field)
 
   pub targets-whole : SomeOf 68 mostTargets (length (targetsIn file))
-  targets-whole = rw (value-length file (targetsAt file) 3 targets-listed (kept .targets-field)) (kept .targets-field .listed)
+  targets-whole = value-listed file (targetsAt file) 3 targets-listed (kept .targets-field)
 
   -- the targets' bytes are the rest of the file
   pub targets-rest : drop (valueAt (targetsAt file)) file ≡ targetsIn file

@@ -16,7 +16,7 @@ use Rattle.model.specs.declared.Target.{Target}
 use Rattle.model.specs.Ranges.{low, high}
 use Rattle.model.specs.Program.{codeAt, targetAt}
 use Rattle.model.specs.Step.{step}
-use Rattle.model.specs.File.{instructionCount, targetCount, instructionIn, tabulate, claimIn, targetIn, indirectClaim, programOf}
+use Rattle.model.specs.File.{instructionCount, targetCount, instructionIn, tabulate, claimIn, targetIn, targetRowIn, indirectClaim, programOf}
 use Rattle.model.specs.Rules.{TargetPlaced, ModuleKept, ModulePlaced}
 use Rattle.model.specs.Run.{run}
 use Rattle.model.proofs.Steady.{TargetsInside, Steady, RunSteady, step-steady, run-steady}
@@ -79,7 +79,7 @@ module _ {l : Layout} {code targets : List ℕ} (kept : ModulePlaced l code targ
   unfolding programOf targetIn claimIn
   target-facts i t e =
       let f : Found (targetIn targets) 0 (targetCount targets) i t = found (targetIn targets) 0 (targetCount targets) i t e in
-      let good : TargetPlaced (instructionCount code) targets (f .number) = kept .each-target (f .number) (omega (arith, f .most)) in
+      let good : TargetPlaced (instructionCount code) (targetRowIn targets) (f .number) = kept .each-target (f .number) (omega (arith, f .most)) in
       subst (TargetFacts (length (programOf l code targets .code)) i) (f .is)
       (record {
         inside = omega (arith, good .inside, f .index, code-length l code targets);

@@ -4,7 +4,7 @@ use Prim.Native.Nat.{ℕ}
 use Rattle.model.specs.declared.Ending.{Ending}
 use Rattle.model.specs.declared.Ending.the-variants.{Halted, Trapped, Denied, Violated, OutOfBudget}
 use Rattle.model.specs.declared.Rule.{Rule}
-use Rattle.model.specs.declared.Rule.the-variants.{Truncated, WrongTag, BadLength, TrailingBytes, BadLayout, BadInstruction, BadTarget, NoTarget, UncheckedJump, WildAccess, BrokenClaim, Unreachable, FallsOff, BadPc, NoRoom}
+use Rattle.model.specs.declared.Rule.the-variants.{Truncated, WrongTag, BadLength, TrailingBytes, BadLayout, BadInstruction, BadTarget, NoTarget, UncheckedJump, WildAccess, BrokenClaim, Unreachable, FallsOff, BadPc, NoRoom, NoSpace}
 use Rattle.model.specs.declared.Refusal.{Refusal}
 use Rattle.model.specs.declared.Verdict.{Verdict}
 use Rattle.model.specs.declared.Verdict.the-variants as Verdicts
@@ -13,7 +13,7 @@ use Rattle.model.specs.declared.Completion.{Completion}
 use Rattle.model.specs.declared.Completion.the-variants as Completions
 use Rattle.model.specs.Obligations.{Fault, fault}
 
--- the number of a refusal, with its word in document 01
+-- the number of a refusal, with its word in document 01; from 16 on in document 02
 unfoldable pub ruleNumber : Rule → ℕ
 ruleNumber Truncated = 1  -- short
 ruleNumber WrongTag = 2  -- wrong tag
@@ -30,6 +30,7 @@ ruleNumber Unreachable = 12  -- no way in
 ruleNumber FallsOff = 13  -- runs off
 ruleNumber BadPc = 14  -- bad place
 ruleNumber NoRoom = 15  -- no ground
+ruleNumber NoSpace = 16  -- no space (document 02, ticket 5)
 
 unfoldable pub faultOf : Refusal → Fault
 faultOf r = fault (ruleNumber (r .rule)) (r .place)

@@ -193,17 +193,36 @@ rows a b w imm =
 unfoldable pub decode : ℕ → ℕ → ℕ → ℕ → ℕ → Option Instruction
 decode op a b w imm = getD (rows a b w imm) op none
 
+-- an instruction as it stands in a table: its bytes op, a, b, w and its imm, as numbers
+pub record InstructionRow : Type 0 where
+  pub op : ℕ
+  pub a : ℕ
+  pub b : ℕ
+  pub w : ℕ
+  pub imm : ℕ
+
+abbrev pub decoded : InstructionRow → Option Instruction
+decoded x = decode (x .op) (x .a) (x .b) (x .w) (x .imm)
+
 -- the instruction at an index of the code
 abbrev pub instructionAt : ℕ → ℕ
 instructionAt i = 8 * i
 
-unfoldable pub instructionIn : List ℕ → ℕ → Option Instruction
-instructionIn code i =
-    decode (byteAt code (instructionAt i)) (byteAt code (instructionAt i + 1)) (byteAt code (instructionAt i + 2))
-    (byteAt code (instructionAt i + 3)) (readBytes 4 code (instructionAt i + 4))
+abbrev pub rowIn : List ℕ → ℕ → InstructionRow
+rowIn code i = record {
+  op = byteAt code (instructionAt i);
+  a = byteAt code (instructionAt i + 1);
+  b = byteAt code (instructionAt i + 2);
+  w = byteAt code (instructionAt i + 3);
+  imm = readBytes 4 code (instructionAt i + 4);
+}
 
-abbrev pub isInstruction : List ℕ → ℕ → Bool
-isInstruction code i = anyOf (instructionIn code i) (λ x. true)
+unfoldable pub instructionIn : List ℕ → ℕ → Option Instruction
+instructionIn code i = decoded (rowIn code i)
+
+-- what a row decodes to is an instruction
+abbrev pub isInstruction : Option Instruction → Bool
+isInstruction decodes = anyOf decodes (λ x. true)
 
 -- ---- targets (doors): "Index (16 bits), kind (8 bits: 0 inner, 1 open), a zero byte, then for r0 to r7 a lowest and a
 -- highest value, 32 bits each: the claim."
@@ -233,6 +252,21 @@ unfoldable pub targetIn : List ℕ → ℕ → Target
 targetIn targets j =
     record { index = targetIndex targets j; indirect = eqb (targetKind targets j) 1; claim = claimIn targets j }
 
+-- a target as it stands in a table: its index, kind and zero byte as numbers, and its claim
+pub record TargetRow : Type 0 where
+  pub index : ℕ
+  pub kind : ℕ
+  pub zero-byte : ℕ
+  pub claim : Ranges
+
+abbrev pub targetRowIn : List ℕ → ℕ → TargetRow
+targetRowIn targets j = record {
+  index = targetIndex targets j;
+  kind = targetKind targets j;
+  zero-byte = byteAt targets (targetStart j + 3);
+  claim = claimIn targets j;
+}
+
 -- "An open door claims 'anything', 0 to 2^32 − 1, for each register."
 abbrev pub indirectClaim : Ranges
 indirectClaim = unknown
@@ -241,40 +275,44 @@ abbrev pub isIndirectClaim : Ranges → Bool
 isIndirectClaim k = allBelow 8 (λ r. eqb (low k r) (low indirectClaim r) && eqb (high k r) (high indirectClaim r))
 
 -- "The first door is open and has index 0."; "Indexes rise strictly"
-abbrev pub isInOrder : List ℕ → ℕ → Bool
-isInOrder targets zero = eqb (targetIndex targets 0) 0 && eqb (targetKind targets 0) 1
-isInOrder targets (suc j) = ltb (targetIndex targets j) (targetIndex targets (suc j))
+abbrev pub isInOrder : (ℕ → TargetRow) → ℕ → Bool
+isInOrder target zero = eqb (target 0 .index) 0 && eqb (target 0 .kind) 1
+isInOrder target (suc j) = ltb (target j .index) (target (suc j) .index)
 
--- "and are below n.": all that is asked of a target but the order of its claim's ends
-unfoldable pub isPlacedTarget : ℕ → List ℕ → ℕ → Bool
-isPlacedTarget n targets j =
-    ltb (targetIndex targets j) n && ltb (targetKind targets j) 2 && eqb (byteAt targets (targetStart j + 3)) 0
-    && (not (eqb (targetKind targets j) 1) || isIndirectClaim (claimIn targets j))
-    && isInOrder targets j
+-- "and are below n.": all that is asked of the target of a number but the order of its claim's ends
+unfoldable pub isPlacedTarget : ℕ → (ℕ → TargetRow) → ℕ → Bool
+isPlacedTarget n target j =
+    ltb (target j .index) n && ltb (target j .kind) 2 && eqb (target j .zero-byte) 0
+    && (not (eqb (target j .kind) 1) || isIndirectClaim (target j .claim))
+    && isInOrder target j
 
 -- "No lowest exceeds its highest."
 abbrev pub isOrderedClaim : Ranges → Bool
 isOrderedClaim k = allBelow 8 (λ r. leb (low k r) (high k r))
 
-unfoldable pub isGoodTarget : ℕ → List ℕ → ℕ → Bool
-isGoodTarget n targets j = isPlacedTarget n targets j && isOrderedClaim (claimIn targets j)
+unfoldable pub isGoodTarget : ℕ → (ℕ → TargetRow) → ℕ → Bool
+isGoodTarget n target j = isPlacedTarget n target j && isOrderedClaim (target j .claim)
 
 -- ---- the module
 
--- 6 and 7: every instruction of the code, and every target, in a module of n instructions; what is asked of a target is given
-abbrev pub instructionRules : List ℕ → List Obligation
-instructionRules code = each (instructionCount code) (λ i. owes 6 i (isInstruction code i) ∷ [])
+-- 6 and 7: every instruction, and every target, of n and of k; what is asked of a target is given
+abbrev pub instructionRules : ℕ → (ℕ → Option Instruction) → List Obligation
+instructionRules n decodes = each n (λ i. owes 6 i (isInstruction (decodes i)) ∷ [])
 
-abbrev pub targetRules : (ℕ → Bool) → List ℕ → List Obligation
-targetRules good targets = each (targetCount targets) (λ j. owes 7 j (good j) ∷ [])
+abbrev pub targetRules : ℕ → (ℕ → Bool) → List Obligation
+targetRules k good = each k (λ j. owes 7 j (good j) ∷ [])
 
--- 5, 6 and 7
-abbrev pub moduleRules : (ℕ → List ℕ → ℕ → Bool) → Layout → List ℕ → List ℕ → List Obligation
+-- 5, 6 and 7, wherever instructions and targets stand
+abbrev pub tableRules : (ℕ → (ℕ → TargetRow) → ℕ → Bool) → Layout → ℕ → (ℕ → Option Instruction) → ℕ → (ℕ → TargetRow) → List Obligation
+tableRules good l n decodes k target = owes 5 0 (isLayout l) ∷ (instructionRules n decodes ++ targetRules k (good n target))
+
+-- and of the code's bytes and the targets' bytes
+abbrev pub moduleRules : (ℕ → (ℕ → TargetRow) → ℕ → Bool) → Layout → List ℕ → List ℕ → List Obligation
 moduleRules good l code targets =
-    owes 5 0 (isLayout l) ∷ (instructionRules code ++ targetRules (good (instructionCount code) targets) targets)
+    tableRules good l (instructionCount code) (instructionIn code) (targetCount targets) (targetRowIn targets)
 
 -- the three fields in order, "Then come 4, 5, 6, 7 over the whole module."
-unfoldable pub readableBy : (ℕ → List ℕ → ℕ → Bool) → List ℕ → List Obligation
+unfoldable pub readableBy : (ℕ → (ℕ → TargetRow) → ℕ → Bool) → List ℕ → List Obligation
 readableBy good file =
     field file 0 1
     ++ (field file codeStart 2

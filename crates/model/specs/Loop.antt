@@ -1,25 +1,15 @@
 -- Document 01's loop as a file, byte by byte, and what its judgement and a walk of two calls come to. That they do is `LoopJudged` and
 -- `LoopWalked` in Promises. Assumes nothing.
-use Prim.Native.Nat.{ℕ, zero, suc, _/_, _%_}
-use mathlib.Core.List.{List, [], _∷_, _++_}
-use lib.ListN.{length, replicate}
+use Prim.Native.Nat.{ℕ}
+use mathlib.Core.List.{List, _∷_, _++_}
+use lib.ListN.{replicate}
 use Rattle.model.specs.declared.Machine.{Machine}
-use Rattle.model.specs.Words.{top}
+use Rattle.model.specs.Words.{top, lowBytes}
 use Rattle.model.specs.Walk.{Call}
-
--- the low n bytes of a number, little-endian
-unfoldable pub bytes : ℕ → ℕ → List ℕ
-bytes zero x = []
-bytes (suc n) x = x % 256 ∷ bytes n (x / 256)
-
-abbrev pub word : ℕ → List ℕ
-word x = bytes 4 x
-
-abbrev pub fieldOf : ℕ → List ℕ → List ℕ
-fieldOf tag value = tag ∷ (bytes 2 (length value) ++ value)
+use Rattle.model.specs.Writer.{instructionRow, word, fieldOf, rowBytes}
 
 abbrev pub instruction : ℕ → ℕ → ℕ → ℕ → ℕ → List ℕ
-instruction op a b w imm = op ∷ a ∷ b ∷ w ∷ word imm
+instruction op a b w imm = rowBytes (instructionRow op a b w imm)
 
 abbrev pub fromTo : ℕ → ℕ → List ℕ
 fromTo lowest highest = word lowest ++ word highest
@@ -30,7 +20,7 @@ anything = fromTo 0 top
 -- a target that claims a range for r1 and anything for the other registers
 abbrev pub target : ℕ → ℕ → List ℕ → List ℕ
 target index kind r1 =
-    bytes 2 index
+    lowBytes 2 index
     ++ (kind ∷ 0 ∷ (anything ++ (r1 ++ (anything ++ (anything ++ (anything ++ (anything ++ (anything ++ anything))))))))
 
 abbrev pub direct : ℕ
@@ -42,7 +32,7 @@ indirect = 1
 -- "The loop: 0 guard r1; 1 load r0, r1, width 4, imm 0; 2 addi r1, 4; 3 jump 1. Doors: 0 open; 1 inner, r1 DB to DL + 4, others
 -- anything.", with a guard and a highest value claimed for r1
 unfoldable pub loopWith : ℕ → ℕ → List ℕ
-unfolding bytes
+unfolding lowBytes
 loopWith guard highest =
     fieldOf 1 (word 0x2000_0000 ++ (word 4096 ++ word guard))
     ++ (fieldOf 2 (instruction 7 1 0 0 0 ++ (instruction 10 0 1 4 0 ++ (instruction 4 1 0 0 4 ++ instruction 12 0 0 0 1)))

@@ -6,9 +6,10 @@ use mathlib.Core.Bool.{true, false}
 use mathlib.Core.Logic.{_↔_, _⊎_}
 use mathlib.Core.List.{List, [], _∷_, _++_, map, List·Memᴰ}
 use mathlib.Core.Option.{none, some}
-use lib.ListN.{length, take, replicate}
+use lib.ListN.{length, take, drop, replicate}
 use Rattle.model.specs.declared.Ending.{Ending}
 use Rattle.model.specs.declared.Ending.the-variants.{OutOfBudget}
+use Rattle.model.specs.declared.Instruction.{Instruction}
 use Rattle.model.specs.declared.Layout.{Layout}
 use Rattle.model.specs.declared.LoadWidth.the-variants.{SignedOne, SignedTwo}
 use Rattle.model.specs.declared.Machine.{Machine}
@@ -19,23 +20,26 @@ use Rattle.model.specs.Obligations.{Fault, fault, firstFault, FirstUnmet
 use Rattle.model.specs.Answers.{accepted, refused, ended, rejected}
 use Rattle.model.specs.Program.{Program}
 use Rattle.model.specs.Step.{inRegion, inZones, step}
-use Rattle.model.specs.File.{byteAt, codeIn, instructionCount, programIn}
+use Rattle.model.specs.File.{byteAt, codeIn, instructionCount, InstructionRow, decoded, programIn}
 use Rattle.model.specs.Judgement.{obligations, firstBroken, judgement}
 use Rattle.model.specs.Claims.{begun, swept, given, sweeping, mostSweeps, codeOf, workedOut, withClaims, reclaimed, claimed, finishedFile, workOut}
 use Rattle.model.specs.Rules.{FileKept, FilePlaced, KeepsEveryRule, Runnable}
 use Rattle.model.specs.Run.{Seen, run, runnable, runOn, RunPost, seenAfter}
 use Rattle.model.specs.Walk.{Call, walk, seenIn, Called}
-use Rattle.model.specs.Safety.{Fed, InZones, InRegionOf}
+use Rattle.model.specs.Safety.{Fed, EightWords, InZones, InRegionOf}
+use Rattle.model.specs.Writer.{Tables, instructionRowAt, targetRowAt, encoded, programFrom, tablesIn, fileOf, tablesOwed, writable, tablesJudged, wrote, unwritten, write}
 use Rattle.model.specs.Outcomes as Outcomes
 use Rattle.model.specs.Outcomes.{Row, row, numbers}
 use Rattle.model.specs.Loop.{loopWith, loop, start, zeros, calling}
 use Rattle.model.specs.Walks as Walks
 use Rattle.model.specs.Worked as Worked
+use Rattle.model.specs.Wrote as Wrote
 use Rattle.model.specs.Line.{digit, decimal, lineOf}
 
--- ---- demand 1: "gets the result or one of the fifteen listed refusals"
+-- ---- demand 1: "gets the result or one of the fifteen listed refusals"; document 02, ticket 5: "This number and all later new ones join
+-- demand 1's list."
 
--- the verifier's refusals are numbered 1 to 13, a run's 1 to 7, 14 and 15
+-- the verifier's refusals are numbered 1 to 13, a run's 1 to 7, 14 and 15; the writer's are in `WriterRefuses`
 pub record RefusalsListed : Type 0 where
   pub verdict : (file : List ℕ) (f : Fault) → judgement file ≡ refused f → (1 ≤ f .number) × (f .number ≤ 13)
   pub run : (file : List ℕ) (m : Machine) (memory : List ℕ) (offset budget : ℕ) (f : Fault) (n : ℕ)
@@ -118,6 +122,9 @@ pub record KnownRequests : Type 0 where
       ≡ 1 ∷ 1 ∷ 1 ∷ 1 ∷ 1 ∷ 1 ∷ 2 ∷ 2 ∷ 2 ∷ 2 ∷ 2 ∷ 2 ∷ 2 ∷ 2 ∷ []
   pub worked : (r : Row) → List·Memᴰ r Worked.table → r .given ≡ r .expected
   pub worked-complete : numbers Worked.table ≡ 3 ∷ 3 ∷ 3 ∷ 3 ∷ 3 ∷ 3 ∷ 3 ∷ 3 ∷ 3 ∷ 3 ∷ 3 ∷ []
+  pub written : (r : Row) → List·Memᴰ r Wrote.table → r .given ≡ r .expected
+  pub written-complete : numbers Wrote.table
+      ≡ 5 ∷ 5 ∷ 5 ∷ 5 ∷ 5 ∷ 5 ∷ 5 ∷ 5 ∷ 5 ∷ 5 ∷ 5 ∷ 5 ∷ 5 ∷ 5 ∷ 5 ∷ 5 ∷ []
 
 -- document 02, ticket 2: "carry the sign up through 32 bits": the signed reading of what a load carries is that of the sample, for
 -- every sample of one byte and of two; and of a word `signedFrom` is document 01's signed reading
@@ -207,3 +214,44 @@ pub record InnerIgnored : Type 0 where
       × ((n k : ℕ) → workOut file .judgement ≡ accepted n k → workOut garbled .bytes ≡ workOut file .bytes)
   pub twice : (file : List ℕ) (n k : ℕ) → workOut file .judgement ≡ accepted n k
       → workOut (workOut file .bytes) ≡ workOut file
+
+-- ---- document 02, ticket 5: files that are written
+
+-- a row that decodes is the row of what it decodes to, so an instruction that is decoded has one row and is what that decodes to
+pub record RowsDecoded : Type 0 where
+  pub one : (x : InstructionRow) (i : Instruction) → x .imm < modulus → decoded x ≡ some i → encoded i ≡ x
+  pub back : (x : InstructionRow) (i : Instruction) → x .imm < modulus → decoded x ≡ some i → decoded (encoded i) ≡ some i
+
+-- what a host can hand over: each imm and each end of a claim is a word, each claim has eight ranges, and a target has no more than
+-- index, kind and claim
+pub record AreTables (t : Tables) : Type 0 where
+  pub imm : (i : ℕ) → instructionRowAt t i .imm < modulus
+  pub zero-byte : (j : ℕ) → targetRowAt t j .zero-byte ≡ 0
+  pub lows : (j : ℕ) → EightWords (targetRowAt t j .claim .lows)
+  pub highs : (j : ℕ) → EightWords (targetRowAt t j .claim .highs)
+
+-- "Each set of tables that the reader accepts has one file, the reader gives back those tables from it, and writing what was read yields
+-- the file that was read."
+pub record FilesWritten : Type 0 where
+  -- tables that keep 3, 5, 6 and 7 have a file that the reader accepts, and it gives back those tables, as rows and decoded
+  pub some-file : (t : Tables) → AreTables t → firstFault (tablesOwed t) ≡ none
+      → AreBytes (fileOf t) × FileKept (fileOf t) × (tablesIn (fileOf t) ≡ t) × (programIn (fileOf t) ≡ programFrom t)
+  -- the tables of any file that the reader accepts keep them, and the file of these tables is that file: no other has them
+  pub one-file : (file : List ℕ) → AreBytes file → FileKept file
+      → AreTables (tablesIn file) × (firstFault (tablesOwed (tablesIn file)) ≡ none) × (fileOf (tablesIn file) ≡ file)
+  -- nor has any other the same instructions and targets, decoded
+  pub one-program : (file other : List ℕ) → AreBytes file → AreBytes other → FileKept file → FileKept other
+      → programIn file ≡ programIn other → file ≡ other
+  -- what is written is judged as its tables are
+  pub judged : (t : Tables) → AreTables t → firstFault (tablesOwed t) ≡ none → judgement (fileOf t) ≡ tablesJudged t
+
+-- "the writer's order is 3, 5, 6, 7, 16"; "so does all of it after a refusal"
+pub record WriterRefuses : Type 0 where
+  pub numbered : (t : Tables) (buffer : List ℕ) (f : Fault) → write t buffer .report ≡ unwritten f
+      → (f .number ≡ 3) ⊎ (((5 ≤ f .number) × (f .number ≤ 7)) ⊎ (f .number ≡ 16))
+  pub first : (t : Tables) (buffer : List ℕ) (f : Fault) → write t buffer .report ≡ unwritten f → FirstUnmet (writable t buffer) f
+  pub kept : (t : Tables) (buffer : List ℕ) (f : Fault) → write t buffer .report ≡ unwritten f → write t buffer .buffer ≡ buffer
+  -- and where it writes, the file has the length that it answers, and no byte past it changes
+  pub past : (t : Tables) (buffer : List ℕ) (n : ℕ) → write t buffer .report ≡ wrote n
+      → (n ≡ length (fileOf t)) × (n ≤ length buffer) × (take n (write t buffer .buffer) ≡ fileOf t)
+      × (drop n (write t buffer .buffer) ≡ drop n buffer)

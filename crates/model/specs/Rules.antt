@@ -4,7 +4,7 @@ use Prim.Native.Nat.{ℕ, suc, _+_, _-_, _*_, _^_, _≤_, _<_}
 use mathlib.Core.Path.{_≡_}
 use mathlib.Core.Bool.{true, false}
 use mathlib.Core.List.{List}
-use mathlib.Core.Option.{some}
+use mathlib.Core.Option.{Option, some}
 use lib.IntN.{ℤ, pos, _+ℤ_}
 use lib.Signed.{_≤ℤ_}
 use lib.ListN.{length}
@@ -19,7 +19,7 @@ use Rattle.model.specs.Words.{modulus}
 use Rattle.model.specs.Ranges.{low, high, rangeOf}
 use Rattle.model.specs.Program.{Program, targetAt, isTarget}
 use Rattle.model.specs.Instructions.{bytesOf, Access}
-use Rattle.model.specs.File.{byteAt, fieldLength, valueAt, fieldEnd, mostInstructions, mostTargets, codeStart, targetsAt, codeIn, targetsIn, instructionCount, targetCount, layoutIn, instructionIn, targetStart, targetIndex, targetKind, claimIn, indirectClaim, programIn}
+use Rattle.model.specs.File.{byteAt, fieldLength, valueAt, fieldEnd, mostInstructions, mostTargets, codeStart, targetsAt, codeIn, targetsIn, instructionCount, targetCount, layoutIn, instructionIn, TargetRow, targetRowIn, indirectClaim, programIn}
 use Rattle.model.specs.Judgement.{traitsAt, knownAt, nextRanges, takenRanges, checkedBefore}
 
 -- 1, 2, 3: a field stands whole at its offset, with its tag and a length that is listed
@@ -41,30 +41,30 @@ pub record LayoutKept (l : Layout) : Type 0 where
   pub below : l .guard ≤ l .base
   pub above : l .base + l .size + l .guard ≤ modulus
 
--- 6: the eight bytes at an index of the code are an instruction
-abbrev pub InstructionKept : List ℕ → ℕ → Type 0
-InstructionKept code i = (x : Instruction) × (instructionIn code i ≡ some x)
+-- 6: what stands at an index decodes to an instruction
+abbrev pub InstructionKept : Option Instruction → Type 0
+InstructionKept decodes = (x : Instruction) × (decodes ≡ some x)
 
 -- 7 but for the order of a claim's ends, in a module of n instructions
-pub record TargetPlaced (n : ℕ) (targets : List ℕ) (j : ℕ) : Type 0 where
-  pub inside : targetIndex targets j < n
-  pub kind : targetKind targets j < 2
-  pub zero-byte : byteAt targets (targetStart j + 3) ≡ 0
-  pub indirect : targetKind targets j ≡ 1 → (r : ℕ) → r < 8
-      → (low (claimIn targets j) r ≡ low indirectClaim r) × (high (claimIn targets j) r ≡ high indirectClaim r)
-  pub first : j ≡ 0 → (targetIndex targets 0 ≡ 0) × (targetKind targets 0 ≡ 1)
-  pub rising : (i : ℕ) → j ≡ suc i → targetIndex targets i < targetIndex targets (suc i)
+pub record TargetPlaced (n : ℕ) (target : ℕ → TargetRow) (j : ℕ) : Type 0 where
+  pub inside : target j .index < n
+  pub kind : target j .kind < 2
+  pub zero-byte : target j .zero-byte ≡ 0
+  pub indirect : target j .kind ≡ 1 → (r : ℕ) → r < 8
+      → (low (target j .claim) r ≡ low indirectClaim r) × (high (target j .claim) r ≡ high indirectClaim r)
+  pub first : j ≡ 0 → (target 0 .index ≡ 0) × (target 0 .kind ≡ 1)
+  pub rising : (i : ℕ) → j ≡ suc i → target i .index < target (suc i) .index
 
 -- 7
-pub record TargetKept (n : ℕ) (targets : List ℕ) (j : ℕ) : Type 0 where
-  pub placed : TargetPlaced n targets j
-  pub ordered : (r : ℕ) → r < 8 → low (claimIn targets j) r ≤ high (claimIn targets j) r
+pub record TargetKept (n : ℕ) (target : ℕ → TargetRow) (j : ℕ) : Type 0 where
+  pub placed : TargetPlaced n target j
+  pub ordered : (r : ℕ) → r < 8 → low (target j .claim) r ≤ high (target j .claim) r
 
 -- 5 and 6, and of each target what is given: the layout, every instruction of the code and every target
-pub record ModuleHolds (Good : ℕ → List ℕ → ℕ → Type 0) (l : Layout) (code targets : List ℕ) : Type 0 where
+pub record ModuleHolds (Good : ℕ → (ℕ → TargetRow) → ℕ → Type 0) (l : Layout) (code targets : List ℕ) : Type 0 where
   pub layout : LayoutKept l
-  pub each-instruction : (i : ℕ) → i < instructionCount code → InstructionKept code i
-  pub each-target : (j : ℕ) → j < targetCount targets → Good (instructionCount code) targets j
+  pub each-instruction : (i : ℕ) → i < instructionCount code → InstructionKept (instructionIn code i)
+  pub each-target : (j : ℕ) → j < targetCount targets → Good (instructionCount code) (targetRowIn targets) j
 
 -- 5, 6 and 7; and these but for the order of claims' ends
 abbrev pub ModuleKept : Layout → List ℕ → List ℕ → Type 0
@@ -123,7 +123,7 @@ pub record IndexKept (p : Program) (i : ℕ) : Type 0 where
   pub next : NextKept p i
 
 -- rules 1 to 6, over every field and instruction, and of each target what is given
-pub record FileHolds (Good : ℕ → List ℕ → ℕ → Type 0) (file : List ℕ) : Type 0 where
+pub record FileHolds (Good : ℕ → (ℕ → TargetRow) → ℕ → Type 0) (file : List ℕ) : Type 0 where
   pub layout-field : FieldKept file 0 1 (λ n. n ≡ 12)
   pub code-field : FieldKept file codeStart 2 (SomeOf 8 mostInstructions)
   pub targets-field : FieldKept file (targetsAt file) 3 (SomeOf 68 mostTargets)

@@ -2,7 +2,7 @@
 -- Assumes nothing.
 use Prim.Native.Nat.{ℕ, zero, suc, _+_, _-_, _*_, _/_, _%_, _^_, min}
 use mathlib.Core.Bool.{cond}
-use mathlib.Core.List.{List}
+use mathlib.Core.List.{List, [], _∷_}
 use lib.Dec.{ltb}
 use lib.IntN.{ℤ, pos, negsuc, subℕ}
 use lib.Signed.{shrZ}
@@ -44,7 +44,12 @@ unfoldable pub readBytes : ℕ → List ℕ → ℕ → ℕ
 readBytes zero bytes at = 0
 readBytes (suc n) bytes at = getD bytes at 0 + 256 * readBytes n bytes (suc at)
 
--- the low n bytes of a number, written from an offset on
+-- the low n bytes of a number
+unfoldable pub lowBytes : ℕ → ℕ → List ℕ
+lowBytes zero x = []
+lowBytes (suc n) x = x % 256 ∷ lowBytes n (x / 256)
+
+-- and written from an offset on
 unfoldable pub writeBytes : ℕ → ℕ → List ℕ → ℕ → List ℕ
 writeBytes zero x bytes at = bytes
 writeBytes (suc n) x bytes at = writeBytes n (x / 256) (set bytes at (x % 256)) (suc at)

@@ -13,7 +13,7 @@ use Rattle.model.specs.declared.Target.{Target}
 use Rattle.model.specs.declared.Test.the-variants.{Equal, Below}
 use Rattle.model.specs.declared.Width.the-variants.{Four}
 use Rattle.model.specs.Quantifiers.{allBelow, anyBelow}
-use Rattle.model.specs.Words.{top, signed, readBytes, writeBytes}
+use Rattle.model.specs.Words.{top, signed, readBytes, lowBytes, writeBytes}
 use Rattle.model.specs.Obligations.{firstFault, eachFrom}
 use Rattle.model.specs.Ranges.{low, high, ruleW, guardRange, cut, between, cutBoth, ruleB, liesWithin}
 use Rattle.model.specs.Program.{Program, targetAt}
@@ -22,7 +22,8 @@ use Rattle.model.specs.File.{isListed, field, isLayout, rows, decode, in
 use Rattle.model.specs.Judgement.{knownAt, isReachable, isChecked, isContained, accessContained, jumpsToTarget, staysInside, takenKept, nextKept, beforeNext, atIndex, verified, obligations, firstBroken, judgement}
 use Rattle.model.specs.Claims.{entryAt, widened, grow, reachAt, arrive, visit, sweep, counted, given, sweeping, workedOut, withClaims, writeRanges, writeClaims, claimed, finishedFile, workOut}
 use Rattle.model.specs.Outcomes.{Row, row, faultTold, verdictTold, entry}
-use Rattle.model.specs.Loop.{bytes, word, fieldOf, instruction, fromTo, anything, target, direct, indirect, loopWith}
+use Rattle.model.specs.Writer.{word, fieldOf}
+use Rattle.model.specs.Loop.{instruction, fromTo, anything, target, direct, indirect, loopWith}
 
 -- document 01's layout with a guard, and a direct target, whose claim is to be ignored
 abbrev pub guardedBy : ℕ → Layout
@@ -78,7 +79,7 @@ loopFile guard = loopWith guard 0
 
 -- "7 except for inner claims": target 1 is bad in its claim, and target 2 in the byte that must be zero
 unfoldable pub twoBad : List ℕ
-unfolding bytes
+unfolding lowBytes
 twoBad =
     fieldOf 1 (word 0x2000_0000 ++ (word 4096 ++ word 4))
     ++ (fieldOf 2 (instruction 0 0 0 0 0 ++ (instruction 0 0 0 0 0 ++ instruction 0 0 0 0 0))
@@ -90,7 +91,7 @@ unfolding workOut finishedFile claimed writeClaims writeRanges writeBytes worked
     grow widened entryAt judgement firstBroken obligations readableBy field fieldValue isListed isLayout instructionIn decode rows isPlacedTarget
     isGoodTarget claimIn targetIn programOf tabulate readBytes signed allBelow anyBelow eachFrom firstFault verified atIndex beforeNext isReachable
     isChecked accessContained isContained jumpsToTarget staysInside takenKept nextKept liesWithin knownAt targetAt shape afterNext afterTaken ruleN
-    ruleW guardRange cut between bytes loopWith twoBad
+    ruleW guardRange cut between lowBytes loopWith twoBad
 answered file = let a = workOut file in verdictTold (judgement file) ++ (verdictTold (a .judgement) ++ a .bytes)
 
 unfoldable pub table : List Row

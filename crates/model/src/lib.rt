@@ -167,7 +167,7 @@ pub fn ending_number(ending: Ending) -> u32
     }
 }
 
-// What a refusal is for, in the order of document 01's numbers 1 to 15.
+// What a refusal is for, in the order of the numbers: 1 to 15 are document 01's, 16 is document 02's.
 pub enum Rule {
     Truncated,
     WrongTag,
@@ -184,9 +184,10 @@ pub enum Rule {
     FallsOff,
     BadPc,
     NoRoom,
+    NoSpace,
 }
 
-// The number of a rule in document 01's table.
+// The number of a rule.
 pub fn rule_number(rule: Rule) -> u32
     ensures { λ r. ⌜ r ≡ ruleNumber rule ⌝ }
 {
@@ -206,6 +207,7 @@ pub fn rule_number(rule: Rule) -> u32
         Rule::FallsOff => 13,
         Rule::BadPc => 14,
         Rule::NoRoom => 15,
+        Rule::NoSpace => 16,
     }
 }
 

@@ -13,7 +13,7 @@ use Rattle.model.specs.declared.Layout.{Layout}
 use Rattle.model.specs.declared.Refusal.{Refusal}
 use Rattle.model.specs.Answers.{faultOf}
 use Rattle.model.specs.Obligations.{Fault, fault, owes, firstFault, eachFrom, each}
-use Rattle.model.specs.File.{fieldEnd, field, codeStart, targetsAt, codeIn, targetsIn, instructionCount, targetCount, layoutIn, instructionIn, isInstruction, isLayout, instructionRules, targetRules, moduleRules, readableBy}
+use Rattle.model.specs.File.{fieldEnd, field, codeStart, targetsAt, codeIn, targetsIn, instructionCount, targetCount, layoutIn, TargetRow, isInstruction, isLayout, instructionRules, targetRules, tableRules, moduleRules, readableBy}
 use Rattle.model.proofs.Faults.{head-met, head-unmet, one-met, append-faultless, append-faulty, index-faultless, index-faulty, indexes-done, indexes-start}
 use Rattle.reader.specs.declared.decode.Decoded.{Decoded}
 use Rattle.reader.specs.declared.decode.Decoded.the-variants.{Is, Not}
@@ -45,12 +45,12 @@ module _ (rule : ℕ) (test : ℕ → Bool) (n i : ℕ) (so-far : Judges rule te
   indexes-pass past = sym (indexes-done _ i n past) ∙ so-far
 
 -- what the decoder's answer tells of an instruction
-module _ (code : List ℕ) (i : ℕ) (found : Decoded) (is : instructionOf found ≡ instructionIn code i) where
-  pub not-decoded : found ≡ Not → isInstruction code i ≡ false
+module _ {decodes : Option Instruction} {found : Decoded} (is : instructionOf found ≡ decodes) where
+  pub not-decoded : found ≡ Not → isInstruction decodes ≡ false
   unfolding instructionOf
   not-decoded nothing = rw (← is, nothing)
 
-  pub decoded : (x : Instruction) → found ≡ Is x → isInstruction code i ≡ true
+  pub decoded : (x : Instruction) → found ≡ Is x → isInstruction decodes ≡ true
   unfolding instructionOf
   decoded x something = rw (← is, something)
 
@@ -65,16 +65,16 @@ module _ {r : Finding} {named : Option Fault} (is : faultIn r ≡ named) where
   unmet-names x unmet = sym (rw unmet at is)
 
 -- 5, 6 and 7, one after another
-module _ (claims : Bool) (l : Layout) (code targets : List ℕ) where
-  pub layout-refused : isLayout l ≡ false → some (fault 5 0) ≡ firstFault (moduleRules (asked claims) l code targets)
+module _ (good : ℕ → (ℕ → TargetRow) → ℕ → Bool) (l : Layout) (n : ℕ) (decodes : ℕ → Option Instruction) (k : ℕ) (target : ℕ → TargetRow) where
+  pub layout-refused : isLayout l ≡ false → some (fault 5 0) ≡ firstFault (tableRules good l n decodes k target)
   layout-refused failed = sym (head-unmet _ _ failed)
 
   module _ (passed : isLayout l ≡ true) where
-    pub instruction-refused : (f : Fault) → firstFault (instructionRules code) ≡ some f → some f ≡ firstFault (moduleRules (asked claims) l code targets)
+    pub instruction-refused : (f : Fault) → firstFault (instructionRules n decodes) ≡ some f → some f ≡ firstFault (tableRules good l n decodes k target)
     instruction-refused f named = sym (head-met _ _ passed ∙ append-faulty _ _ f named)
 
-    pub targets-left : firstFault (instructionRules code) ≡ none
-        → firstFault (targetRules (asked claims (instructionCount code) targets) targets) ≡ firstFault (moduleRules (asked claims) l code targets)
+    pub targets-left : firstFault (instructionRules n decodes) ≡ none
+        → firstFault (targetRules k (good n target)) ≡ firstFault (tableRules good l n decodes k target)
     targets-left none-named = sym (head-met _ _ passed ∙ append-faultless _ _ none-named)
 
 -- the whole file

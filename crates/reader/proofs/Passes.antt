@@ -11,7 +11,7 @@ use Rattle.model.specs.declared.Layout.{Layout}
 use Rattle.model.specs.declared.Refusal.{Refusal}
 use Rattle.model.specs.Answers.{faultOf}
 use Rattle.model.specs.Obligations.{Fault, firstFault}
-use Rattle.model.specs.File.{codeIn, targetsIn, instructionCount, targetCount, layoutIn, readableBy}
+use Rattle.model.specs.File.{codeIn, targetsIn, instructionCount, targetCount, layoutIn, TargetRow, readableBy}
 use Rattle.model.specs.Rules.{TargetPlaced, TargetKept, ModuleHolds, ModulePlaced, FileHolds}
 use Rattle.model.proofs.Accepted.{readable-iff, sweepable-iff}
 use Rattle.model.proofs.Targets.{module-placed}
@@ -22,7 +22,7 @@ use Rattle.reader.specs.declared.read.Reading.{Reading}
 use Rattle.reader.specs.Readings.{holds, refused, asked, readReport, readingBy, readingOf, Loaded}
 
 -- what is asked of a target, in the rules' terms
-abbrev pub Asked : Bool → ℕ → List ℕ → ℕ → Type 0
+abbrev pub Asked : Bool → ℕ → (ℕ → TargetRow) → ℕ → Type 0
 Asked true = TargetKept
 Asked false = TargetPlaced
 

@@ -10,7 +10,7 @@ use lib.Dec.{leb, ltb, eqb}
 use lib.ListN.{getD, getD-replicate}
 use Rattle.model.specs.Ranges.{low, high}
 use Rattle.model.specs.Words.{top, readBytes}
-use Rattle.model.specs.File.{tabulate, targetStart, targetIndex, targetKind, claimIn, indirectClaim, isIndirectClaim, isInOrder, isPlacedTarget, isOrderedClaim, isGoodTarget}
+use Rattle.model.specs.File.{tabulate, targetStart, claimIn, TargetRow, indirectClaim, isIndirectClaim, isInOrder, isPlacedTarget, isOrderedClaim, isGoodTarget}
 use Rattle.model.proofs.Reflection.{eq-reflects, implies-reflects}
 use Rattle.reader.specs.Readings.{asked}
 
@@ -45,77 +45,77 @@ module _ (lows highs : List ℕ) (r : ℕ) (below : r < 8) where
     nothing-claimed most = anything-is ∙ rw (eq-eqb (getD lows r 0) 0 least, eq-eqb (getD highs r 0) top most)
 
 -- the order of a target's index, with the one before it
-module _ (targets : List ℕ) (j : ℕ) where
-  module _ (first : j ≡ 0) (index : ℕ) (is-index : index ≡ targetIndex targets 0) where
-    pub first-above : (index ≡ 0 → ⊥) → false ≡ isInOrder targets j
-    first-above above = sym (rw (first, ne-eqb (targetIndex targets 0) 0 (λ e. above (is-index ∙ e))))
+module _ (target : ℕ → TargetRow) (j : ℕ) where
+  module _ (first : j ≡ 0) (index : ℕ) (is-index : index ≡ target 0 .index) where
+    pub first-above : (index ≡ 0 → ⊥) → false ≡ isInOrder target j
+    first-above above = sym (rw (first, ne-eqb (target 0 .index) 0 (λ e. above (is-index ∙ e))))
 
-    pub first-at-zero : index ≡ 0 → (kind : ℕ) → kind ≡ targetKind targets 0 → eqb kind 1 ≡ isInOrder targets j
-    first-at-zero none kind is-kind = sym (rw (first, eq-eqb (targetIndex targets 0) 0 (sym is-index ∙ none), is-kind))
+    pub first-at-zero : index ≡ 0 → (kind : ℕ) → kind ≡ target 0 .kind → eqb kind 1 ≡ isInOrder target j
+    first-at-zero none kind is-kind = sym (rw (first, eq-eqb (target 0 .index) 0 (sym is-index ∙ none), is-kind))
 
-  pub later-rises : (j ≡ 0 → ⊥) → (before here : ℕ) → before ≡ targetIndex targets (j - 1) → here ≡ targetIndex targets j
-      → ltb before here ≡ isInOrder targets j
+  pub later-rises : (j ≡ 0 → ⊥) → (before here : ℕ) → before ≡ target (j - 1) .index → here ≡ target j .index
+      → ltb before here ≡ isInOrder target j
   later-rises later before here is-before is-here = rw (is-before, is-here) (by-number j later)
     where
-      by-number : (i : ℕ) → (i ≡ 0 → ⊥) → ltb (targetIndex targets (i - 1)) (targetIndex targets i) ≡ isInOrder targets i
+      by-number : (i : ℕ) → (i ≡ 0 → ⊥) → ltb (target (i - 1) .index) (target i .index) ≡ isInOrder target i
       by-number zero positive = absurd (positive refl)
       by-number (suc i) positive = let less : suc i - 1 ≡ i = omega arith in rw less
 
 -- what the code reads before it tests a target
-pub record Parts (targets : List ℕ) (j kind index : ℕ) : Type 0 where
-  pub is-kind : kind ≡ targetKind targets j
-  pub is-index : index ≡ targetIndex targets j
+pub record Parts (target : ℕ → TargetRow) (j kind index : ℕ) : Type 0 where
+  pub is-kind : kind ≡ target j .kind
+  pub is-index : index ≡ target j .index
 
 -- the tests of a target, one after the other
-module _ (n : ℕ) {targets : List ℕ} {j kind index : ℕ} (parts : Parts targets j kind index) where
-  pub outside : n ≤ index → false ≡ isPlacedTarget n targets j
+module _ (n : ℕ) {target : ℕ → TargetRow} {j kind index : ℕ} (parts : Parts target j kind index) where
+  pub outside : n ≤ index → false ≡ isPlacedTarget n target j
   unfolding isPlacedTarget
-  outside past = sym (rw (le-ltb (targetIndex targets j) n (omega arith)))
+  outside past = sym (rw (le-ltb (target j .index) n (omega arith)))
 
   module _ (inside : index < n) where
-    index-passes : ltb (targetIndex targets j) n ≡ true
-    index-passes = lt-ltb (targetIndex targets j) n (omega arith)
+    index-passes : ltb (target j .index) n ≡ true
+    index-passes = lt-ltb (target j .index) n (omega arith)
 
-    pub unknown-kind : 2 ≤ kind → false ≡ isPlacedTarget n targets j
+    pub unknown-kind : 2 ≤ kind → false ≡ isPlacedTarget n target j
     unfolding isPlacedTarget
-    unknown-kind above = sym (rw (index-passes, le-ltb (targetKind targets j) 2 (omega arith)))
+    unknown-kind above = sym (rw (index-passes, le-ltb (target j .kind) 2 (omega arith)))
 
-    module _ (known : kind < 2) {byte : ℕ} (is-byte : byte ≡ getD targets (targetStart j + 3) 0) where
-      kind-passes : ltb (targetKind targets j) 2 ≡ true
-      kind-passes = lt-ltb (targetKind targets j) 2 (omega arith)
+    module _ (known : kind < 2) {byte : ℕ} (is-byte : byte ≡ target j .zero-byte) where
+      kind-passes : ltb (target j .kind) 2 ≡ true
+      kind-passes = lt-ltb (target j .kind) 2 (omega arith)
 
-      pub used-byte : (byte ≡ 0 → ⊥) → false ≡ isPlacedTarget n targets j
+      pub used-byte : (byte ≡ 0 → ⊥) → false ≡ isPlacedTarget n target j
       unfolding isPlacedTarget
       used-byte used =
-          sym (rw (index-passes, kind-passes, ne-eqb (getD targets (targetStart j + 3) 0) 0 (λ e. used (is-byte ∙ e))))
+          sym (rw (index-passes, kind-passes, ne-eqb (target j .zero-byte) 0 (λ e. used (is-byte ∙ e))))
 
       module _ (unused : byte ≡ 0) where
-        byte-passes : eqb (getD targets (targetStart j + 3) 0) 0 ≡ true
+        byte-passes : eqb (target j .zero-byte) 0 ≡ true
         byte-passes = eq-eqb _ _ (sym is-byte ∙ unused)
 
-        last-tests : isPlacedTarget n targets j ≡ ((not (eqb kind 1) || isIndirectClaim (claimIn targets j)) && isInOrder targets j)
+        last-tests : isPlacedTarget n target j ≡ ((not (eqb kind 1) || isIndirectClaim (target j .claim)) && isInOrder target j)
         unfolding isPlacedTarget
         last-tests = rw (index-passes, kind-passes, byte-passes, parts .is-kind)
 
-        pub narrow-claim : kind ≡ 1 → isIndirectClaim (claimIn targets j) ≡ false → false ≡ isPlacedTarget n targets j
+        pub narrow-claim : kind ≡ 1 → isIndirectClaim (target j .claim) ≡ false → false ≡ isPlacedTarget n target j
         narrow-claim indirect narrow = sym (last-tests ∙ rw (eq-eqb kind 1 indirect, narrow))
 
-        pub only-order : (kind ≡ 1 → isIndirectClaim (claimIn targets j) ≡ true) → isInOrder targets j ≡ isPlacedTarget n targets j
+        pub only-order : (kind ≡ 1 → isIndirectClaim (target j .claim) ≡ true) → isInOrder target j ≡ isPlacedTarget n target j
         only-order wide = sym (last-tests ∙ rw (implies-reflects (eq-reflects kind 1) (λ e. e, λ e. e) .1 wide))
 
 -- all of rule 7, or all but the order of the claim's ends
-module _ (n : ℕ) (targets : List ℕ) (j : ℕ) where
-  pub misplaced : (claims : Bool) → isPlacedTarget n targets j ≡ false → false ≡ asked claims n targets j
+module _ (n : ℕ) (target : ℕ → TargetRow) (j : ℕ) where
+  pub misplaced : (claims : Bool) → isPlacedTarget n target j ≡ false → false ≡ asked claims n target j
   unfolding isGoodTarget
   misplaced true failed = sym (rw failed)
   misplaced false failed = sym failed
 
-  module _ (placed : isPlacedTarget n targets j ≡ true) where
-    pub by-claim : (claims : Bool) → claims ≡ true → isOrderedClaim (claimIn targets j) ≡ asked claims n targets j
+  module _ (placed : isPlacedTarget n target j ≡ true) where
+    pub by-claim : (claims : Bool) → claims ≡ true → isOrderedClaim (target j .claim) ≡ asked claims n target j
     unfolding isGoodTarget
     by-claim true counts = sym (rw placed)
     by-claim false counts = absurd (true≢false (sym counts))
 
-    pub claim-ignored : (claims : Bool) → claims ≡ false → true ≡ asked claims n targets j
+    pub claim-ignored : (claims : Bool) → claims ≡ false → true ≡ asked claims n target j
     claim-ignored true ignored = absurd (true≢false ignored)
     claim-ignored false ignored = sym placed

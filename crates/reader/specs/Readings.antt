@@ -8,7 +8,7 @@ use lib.ListN.{length}
 use Rattle.model.specs.declared.Layout.{Layout}
 use Rattle.model.specs.Obligations.{Fault, firstFault}
 use Rattle.model.specs.Answers.{faultOf}
-use Rattle.model.specs.File.{mostInstructions, mostTargets, field, codeStart, targetsAt, codeIn, targetsIn, instructionCount, targetCount, layoutIn, isPlacedTarget, isGoodTarget, readableBy}
+use Rattle.model.specs.File.{mostInstructions, mostTargets, field, codeStart, targetsAt, codeIn, targetsIn, instructionCount, targetCount, layoutIn, TargetRow, isPlacedTarget, isGoodTarget, readableBy}
 use Rattle.model.specs.Rules.{ModulePlaced}
 use Rattle.reader.specs.declared.read.Parsed.{Parsed}
 use Rattle.reader.specs.declared.read.Parsed.the-variants as Parseds
@@ -29,7 +29,7 @@ readReport file none = holds (layoutIn file) (instructionCount (codeIn file)) (t
 readReport file (some f) = refused f
 
 -- what is asked of a target: all of rule 7, or all but the order of claims' ends
-abbrev pub asked : Bool → ℕ → List ℕ → ℕ → Bool
+abbrev pub asked : Bool → ℕ → (ℕ → TargetRow) → ℕ → Bool
 asked true = isGoodTarget
 asked false = isPlacedTarget
 

@@ -19,7 +19,12 @@ enum Field {
 }
 
 // The bytes of a tag and a length.
-const HEADER: usize = 3;
+pub const HEADER: usize = 3;
+
+// "n from 1 to 4,096"; "k from 1 to 256"
+pub const MOST_INSTRUCTIONS: u16 = 4096;
+
+pub const MOST_TARGETS: u16 = 256;
 
 // A number of units, from one to the most.
 fn is_multiple(unit: u16, most: u16, n: u16) -> bool
@@ -41,8 +46,8 @@ fn is_listed(tag: u8, n: u16) -> bool
 {
     match tag {
         1 => n == 12,
-        2 => is_multiple(INSTRUCTION as u16, 4096, n),
-        3 => is_multiple(TARGET as u16, 256, n),
+        2 => is_multiple(INSTRUCTION as u16, MOST_INSTRUCTIONS, n),
+        3 => is_multiple(TARGET as u16, MOST_TARGETS, n),
         _ => false,
     }
 }

@@ -13,21 +13,21 @@ ghost use mathlib.Core.Path.{_≡_};
 ghost use mathlib.Core.Bool.{false};
 ghost use Rattle.model.specs.Answers.{ruleNumber};
 ghost use Rattle.model.specs.Obligations.{fault, firstFault};
-ghost use Rattle.model.specs.File.{codeStart, targetsAt, instructionCount, targetCount, instructionRules, targetRules, moduleRules};
+ghost use Rattle.model.specs.File.{codeStart, targetsAt, instructionIn, targetRowIn, instructionRules, targetRules, tableRules};
 ghost use Rattle.reader.specs.Fields.{ValuePart};
 ghost use Rattle.reader.specs.Findings.{faultIn};
 ghost use Rattle.reader.specs.Readings.{FieldsStand, asked, readingOf, readingBy, reading, refused};
 
 // The tags of the three fields, and the offsets of the first two.
-const LAYOUT_TAG: u8 = 1;
+pub const LAYOUT_TAG: u8 = 1;
 
-const CODE_TAG: u8 = 2;
+pub const CODE_TAG: u8 = 2;
 
-const TARGETS_TAG: u8 = 3;
+pub const TARGETS_TAG: u8 = 3;
 
-const LAYOUT_AT: u32 = 0;
+pub const LAYOUT_AT: u32 = 0;
 
-const CODE_AT: u32 = 15;
+pub const CODE_AT: u32 = 15;
 
 // What a readable module holds: its layout, and how many instructions and targets.
 pub struct Reading {
@@ -57,8 +57,7 @@ pub fn targets_in(file: &[u8]) -> &[u8]
 
 // 6: every instruction of the code is one.
 fn check_instructions(code: &[u8], n: u32) -> Finding
-    requires { ⌜ n ≡ instructionCount (now code) ⌝ }
-    ensures { λ r. ⌜ faultIn r ≡ firstFault (instructionRules (now (code .entry))) ⌝ }
+    ensures { λ r. ⌜ faultIn r ≡ firstFault (instructionRules n (instructionIn (now (code .entry)))) ⌝ }
 {
     let mut i = 0;
     while i < n {
@@ -73,8 +72,7 @@ fn check_instructions(code: &[u8], n: u32) -> Finding
 
 // 7: every target is good, in a module of n instructions; where claims are ignored, but for the order of their ends.
 fn check_targets(n: u32, targets: &[u8], k: u32, claims: bool) -> Finding
-    requires { ⌜ k ≡ targetCount (now targets) ⌝ }
-    ensures { λ r. ⌜ faultIn r ≡ firstFault (targetRules (asked claims n (now (targets .entry))) (now (targets .entry))) ⌝ }
+    ensures { λ r. ⌜ faultIn r ≡ firstFault (targetRules k (asked claims n (targetRowIn (now (targets .entry))))) ⌝ }
 {
     let mut j = 0;
     while j < k {
@@ -95,8 +93,7 @@ fn check_module(
     k: u32,
     claims: bool,
 ) -> Finding
-    requires { ⌜ (n ≡ instructionCount (now code)) × (k ≡ targetCount (now targets)) ⌝ }
-    ensures { λ r. ⌜ faultIn r ≡ firstFault (moduleRules (asked claims) layout (now (code .entry)) (now (targets .entry))) ⌝ }
+    ensures { λ r. ⌜ faultIn r ≡ firstFault (tableRules (asked claims) layout n (instructionIn (now (code .entry))) k (targetRowIn (now (targets .entry)))) ⌝ }
 {
     if !layout::is_layout(layout) {
         return finding::unmet(Rule::BadLayout, 0);

@@ -5,7 +5,7 @@ ghost use Prim.Native.Nat.{_+_, _*_, _<_};
 ghost use lib.Dec.{eqb};
 ghost use lib.ListN.{getD};
 ghost use Rattle.model.specs.Words.{readBytes};
-ghost use Rattle.model.specs.File.{targetStart, targetIndex, targetKind, claimIn, isIndirectClaim, isInOrder, isPlacedTarget, isOrderedClaim};
+ghost use Rattle.model.specs.File.{targetStart, targetIndex, targetKind, claimIn, targetRowIn, isIndirectClaim, isInOrder, isPlacedTarget, isOrderedClaim};
 ghost use Rattle.reader.specs.Readings.{asked};
 
 // The bytes of a target.
@@ -92,7 +92,7 @@ pub fn claim_in(targets: &[u8], j: u32) -> Ranges
 }
 
 // "No lowest exceeds its highest."
-fn is_ordered(claim: Ranges) -> bool
+pub fn is_ordered(claim: Ranges) -> bool
     ensures { λ x. ⌜ x ≡ isOrderedClaim claim ⌝ }
 {
     let lows = claim.lows;
@@ -108,7 +108,7 @@ fn is_ordered(claim: Ranges) -> bool
 }
 
 // What an indirect target claims: anything, for each register.
-fn is_indirect_claim(claim: Ranges) -> bool
+pub fn is_indirect_claim(claim: Ranges) -> bool
     ensures { λ x. ⌜ x ≡ isIndirectClaim claim ⌝ }
 {
     let lows = claim.lows;
@@ -128,7 +128,7 @@ fn is_indirect_claim(claim: Ranges) -> bool
 
 // The first target is indirect, at index 0; every later one stands above the one before it.
 fn is_in_order(targets: &[u8], j: u32) -> bool
-    ensures { λ x. ⌜ x ≡ isInOrder (now (targets .entry)) j ⌝ }
+    ensures { λ x. ⌜ x ≡ isInOrder (targetRowIn (now (targets .entry))) j ⌝ }
 {
     if j == 0 {
         if index_of(targets, 0) != 0 {
@@ -142,7 +142,7 @@ fn is_in_order(targets: &[u8], j: u32) -> bool
 // The rules of a target, in a module of n instructions, but for the order of its claim's ends.
 fn is_placed_target(n: u32, targets: &[u8], j: u32, claim: Ranges) -> bool
     requires { ⌜ claim ≡ claimIn (now targets) j ⌝ }
-    ensures { λ x. ⌜ x ≡ isPlacedTarget n (now (targets .entry)) j ⌝ }
+    ensures { λ x. ⌜ x ≡ isPlacedTarget n (targetRowIn (now (targets .entry))) j ⌝ }
 {
     let kind = kind_of(targets, j);
     if n <= (index_of(targets, j) as u32) {
@@ -164,7 +164,7 @@ fn is_placed_target(n: u32, targets: &[u8], j: u32, claim: Ranges) -> bool
 
 // The rules of a target; where claims are ignored, but for the order of their ends.
 pub fn is_good_target(n: u32, targets: &[u8], j: u32, claims: bool) -> bool
-    ensures { λ x. ⌜ x ≡ asked claims n (now (targets .entry)) j ⌝ }
+    ensures { λ x. ⌜ x ≡ asked claims n (targetRowIn (now (targets .entry))) j ⌝ }
 {
     let claim = claim_in(targets, j);
     if !is_placed_target(n, targets, j, claim) {

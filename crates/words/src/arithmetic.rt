@@ -17,7 +17,7 @@ pub fn to_signed(x: u32) -> i32
 }
 
 // The word whose signed reading is x.
-fn to_unsigned(x: i32) -> u32
+pub fn to_unsigned(x: i32) -> u32
     ensures { λ r. ⌜ r ≡ wrap x ⌝ }
 {
     if 0 <= x {

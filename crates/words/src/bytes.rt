@@ -54,6 +54,21 @@ pub fn read_u32(bytes: &[u8], at: usize) -> u32
     little_endian(bytes[at], bytes[at + 1], bytes[at + 2], bytes[at + 3])
 }
 
+// The two bytes of a number, from an offset on; nothing where they are not all there.
+pub fn write_u16(bytes: &mut [u8], at: usize, x: u16)
+    ensures { λ r. ⌜ now (bytes .exit) ≡ cond (leb (at + 2) (length (now (bytes .entry)))) (writeBytes 2 x (now (bytes .entry)) at) (now (bytes .entry)) ⌝ }
+{
+    let all = bytes.len();
+    if all < 2 {
+        return;
+    }
+    if all - 2 < at {
+        return;
+    }
+    bytes[at] = (x % 256) as u8;
+    bytes[at + 1] = (x / 256 % 256) as u8;
+}
+
 // The four bytes of a number, from an offset on; nothing where they are not all there.
 pub fn write_u32(bytes: &mut [u8], at: usize, x: u32)
     ensures { λ r. ⌜ now (bytes .exit) ≡ cond (leb (at + 4) (length (now (bytes .entry)))) (writeBytes 4 x (now (bytes .entry)) at) (now (bytes .entry)) ⌝ }

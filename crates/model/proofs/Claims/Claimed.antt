@@ -10,7 +10,7 @@ use lib.ListN.{length}
 use Rattle.model.specs.declared.Layout.{Layout}
 use Rattle.model.specs.declared.Target.{Target}
 use Rattle.model.specs.Program.{Program}
-use Rattle.model.specs.File.{codeIn, targetsIn, targetCount, layoutIn, tabulate, targetKind, claimIn, targetIn, programOf, programIn}
+use Rattle.model.specs.File.{codeIn, targetsIn, targetCount, layoutIn, tabulate, targetKind, claimIn, targetIn, targetRowIn, programOf, programIn}
 use Rattle.model.specs.Rules.{TargetPlaced, ModulePlaced, FilePlaced}
 use Rattle.model.specs.Claims.{Entry, WorkedOut, begun, finished, withClaims, writeClaims, claimed, finishedFile}
 use Rattle.model.proofs.Tabulate.{map-tabulate}
@@ -49,7 +49,7 @@ module _ (ts : List Target) (targets : List ℕ)
       let kind : indirectIn written j ≡ indirectIn targets j = ap (λ (x : ℕ). eqb x 1) (head .kind) in
       record { index = head .index; indirect = kind; claim = λ is. indirect-kept j (sym kind ∙ is) }
 
-  target-placed : (n j : ℕ) → TargetPlaced n targets j → TargetPlaced n written j
+  target-placed : (n j : ℕ) → TargetPlaced n (targetRowIn targets) j → TargetPlaced n (targetRowIn written) j
   target-placed n j was =
       let head = claims-head ts 0 targets in
       record {

@@ -6,7 +6,7 @@ use mathlib.Core.List.{List, _++_}
 use native.Mathlib.Omega.{arith}
 use lib.ListN.{length, getD, take, drop, length-append, length-drop, take-append-drop, List·getD-append}
 use lib.Seq.{length-take-le, getD-take, take-append-le, drop-append-le, take-at, drop-at}
-use Rattle.model.specs.File.{fieldLength, valueAt, fieldEnd, mostInstructions, mostTargets, isListed, fieldValue, codeStart, targetsAt, codeIn, targetsIn, layoutOf, layoutIn, programOf, programIn}
+use Rattle.model.specs.File.{fieldLength, valueAt, fieldEnd, mostInstructions, mostTargets, isListed, fieldValue, codeStart, targetsAt, codeIn, targetsIn, layoutOf, layoutIn, TargetRow, programOf, programIn}
 use Rattle.model.specs.Rules.{FieldKept, SomeOf, ModuleHolds, FileHolds}
 use Rattle.model.proofs.Obligations.{none-iff-met}
 use Rattle.model.proofs.Reflection.{Reflects}
@@ -23,7 +23,7 @@ before-seam : (n at : ℕ) (first rest : List ℕ) → at + n ≤ length first �
 before-seam n at first rest inside =
     ap (take n) (drop-append-le at first rest (omega arith)) ∙ take-append-le n (drop at first) rest (simp length-drop (omega arith))
 
-module _ {Good : ℕ → List ℕ → ℕ → Type 0} (file : List ℕ) (kept : FileHolds Good file)
+module _ {Good : ℕ → (ℕ → TargetRow) → ℕ → Type 0} (file : List ℕ) (kept : FileHolds Good file)
     (targets : List ℕ) (as-long : length targets ≡ length (targetsIn file)) where
   abbrev start : ℕ
   start = valueAt (targetsAt file)
@@ -96,7 +96,7 @@ module _ {Good : ℕ → List ℕ → ℕ → Type 0} (file : List ℕ) (kept : 
   exchanged-program = λ i. programOf (same-layout i) (same-code i) (targets-are i)
 
   -- and it keeps what the others keep
-  pub exchanged-holds : {Good′ : ℕ → List ℕ → ℕ → Type 0} → ModuleHolds Good′ (layoutIn file) (codeIn file) targets
+  pub exchanged-holds : {Good′ : ℕ → (ℕ → TargetRow) → ℕ → Type 0} → ModuleHolds Good′ (layoutIn file) (codeIn file) targets
       → FileHolds Good′ (front file ++ targets)
   exchanged-holds {Good′} holds = record {
     layout-field = field-other 0 1 (λ n. n ≡ 12) (omega arith) (kept .layout-field);

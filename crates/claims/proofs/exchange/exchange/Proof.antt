@@ -5,7 +5,7 @@ use mathlib.Core.Path.{_≡_}
 use mathlib.Core.Logic.{⊎-elim}
 use native.Mathlib.Omega.{arith}
 use Rattle.model.proofs.Tests.{test-fails, test-passes}
-use Rattle.claims.proofs.Exchanging.{exchanged-length, Begun, exchange-begins, exchange-passes, exchange-turns}
+use Rattle.claims.proofs.Exchanging.{claim-in-room, exchanged-length, Begun, exchange-begins, exchange-passes, exchange-turns}
 use Rattle.claims.proofs.exchange.exchange.Statement.{statement}
 use Rattle.claims.proofs.exchange.exchange.Tie as tie
 
@@ -18,19 +18,16 @@ abbrev μ-loop : tie.MeasureT-loop
 loop-holds : tie.Need-loop-holds Inv-loop μ-loop
 loop-holds c = (omega arith, exchange-begins (c .before .pre .2) (c .before .pre .3))
 
-write-claim-requires : tie.Need-write-claim-requires Inv-loop μ-loop
-write-claim-requires c κs =
-    let turn = c .before .before .before .before .before .before .before .before .before in
-    omega (arith, exchanged-length (turn .loop .inv .1 .done), turn .before .before .pre)
-
 loop-again : tie.Need-loop-again Inv-loop μ-loop
 loop-again c =
     let asked = c .before in
-    let begun = asked .before .before .before .loop .inv .1 in (
+    let loop = asked .before .before .before in
+    let begun = loop .loop .inv .1 in (
       omega arith,
       ⊎-elim
-          (λ w. rw (w .11, w .12, w .13)
-          (exchange-turns begun (test-fails (asked .is-indirect .ensures) (w .0 .taken)) (omega arith) _ (w .2 .ensures) (w .6 .ensures)))
+          (λ w. rw (w .12, w .13, w .14)
+          (exchange-turns begun (test-fails (asked .is-indirect .ensures) (w .0 .taken)) (omega arith) _ (w .2 .ensures)
+          (claim-in-room (loop .loop .number) _ (loop .loop .targets) (w .6 .ensures .0) (omega (arith, exchanged-length (begun .done), loop .before .before .pre)) (w .7 .ensures))))
           (λ w. rw (w .1, w .2, w .3) (exchange-passes begun (test-passes (asked .is-indirect .ensures) (w .0 .left))))
           (c .if1 .came),
     )
@@ -50,6 +47,6 @@ exchange-spec =
     Inv-loop μ-loop loop-holds
     (λ c κs. tt) (λ c. omega arith) (λ c κs. tt)
     (λ c. omega arith) (λ c. omega arith) (λ c. omega arith) (λ c. omega arith)
-    write-claim-requires
+    (λ c κs. tt) (λ c κs. tt)
     (λ c. omega arith) (λ c. omega arith) (λ c. omega arith) (λ c. omega arith)
     (λ c. omega arith) (λ c. omega arith) loop-again same-length returns)

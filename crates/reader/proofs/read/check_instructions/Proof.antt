@@ -1,18 +1,18 @@
 -- `reader::read::check_instructions` meets its contract. The loop's invariant: the first fault from here on is the first of all.
 -- Assumes nothing.
 use Prim.Native.Nat.{_-_}
-use mathlib.Core.Path.{ap, _∙_}
+use mathlib.Core.Path.{_∙_}
 use borrow.Author.Needs.{needs}
 use native.Mathlib.Omega.{arith}
 use Rattle.model.specs.Answers.{ruleNumber}
-use Rattle.model.specs.File.{isInstruction}
+use Rattle.model.specs.File.{instructionIn, isInstruction}
 use Rattle.reader.specs.Findings.{faultIn}
-use Rattle.reader.proofs.Checking.{faultBelow, Judges, indexes-begin, index-fails, index-passes, indexes-pass, not-decoded, decoded}
+use Rattle.reader.proofs.Checking.{Judges, indexes-begin, index-fails, index-passes, indexes-pass, not-decoded, decoded}
 use Rattle.reader.proofs.read.check_instructions.Statement.{statement}
 use Rattle.reader.proofs.read.check_instructions.Tie as tie
 
 abbrev Inv-loop : tie.InvT-loop
-Inv-loop code n i₀ i = Judges 6 (isInstruction code) n i
+Inv-loop code n i₀ i = Judges 6 (λ j. isInstruction (instructionIn code j)) n i
 
 abbrev μ-loop : tie.MeasureT-loop
 μ-loop code n i₀ i = n - i
@@ -26,18 +26,17 @@ returns c =
     let judged = c .before .before .before in
     let loop = judged .before .before in
     c .unmet .ensures
-    ∙ index-fails 6 _ _ _ (loop .loop .inv) (omega arith) (not-decoded _ _ _ (judged .instruction-at .ensures) (c .before .enum-told .given .1))
-    ∙ ap (faultBelow 6 _) (loop .before .before .pre)
+    ∙ index-fails 6 _ _ _ (loop .loop .inv) (omega arith) (not-decoded (judged .instruction-at .ensures) (c .before .enum-told .given .1))
 
 loop-again : tie.Need-loop-again Inv-loop μ-loop
 loop-again c =
     let judged = c .before .before in
     index-passes 6 _ _ _ (judged .before .before .loop .inv) (omega arith)
-    (decoded _ _ _ (judged .instruction-at .ensures) _ (c .enum-told2 .given .1))
+    (decoded (judged .instruction-at .ensures) _ (c .enum-told2 .given .1))
 
 returns-2 : tie.Need-returns-2 Inv-loop μ-loop
 unfolding faultIn
-returns-2 c = indexes-pass 6 _ _ _ (c .before .loop .inv) (omega arith) ∙ ap (faultBelow 6 _) (c .before .before .before .pre)
+returns-2 c = indexes-pass 6 _ _ _ (c .before .loop .inv) (omega arith)
 
 pub check-instructions-spec : {M : Type 1} → statement M
 check-instructions-spec =

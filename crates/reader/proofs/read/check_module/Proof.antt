@@ -1,10 +1,8 @@
 -- `reader::read::check_module` meets its contract: the layout, then the instructions, then the targets. Assumes nothing.
-use Prim.Native.Nat.{ℕ}
-use mathlib.Core.Path.{ap, _∙_}
+use mathlib.Core.Path.{_∙_}
 use borrow.Author.Needs.{needs}
 use Rattle.model.specs.Answers.{ruleNumber}
-use Rattle.model.specs.Obligations.{firstFault}
-use Rattle.model.specs.File.{targetRules}
+use Rattle.model.specs.File.{instructionIn, targetRowIn}
 use Rattle.model.proofs.Tests.{test-fails, test-passes}
 use Rattle.reader.specs.Findings.{faultIn}
 use Rattle.reader.specs.Readings.{asked}
@@ -17,17 +15,17 @@ unfolding ruleNumber
 returns c =
     let judged = c .before .before in
     let entry = judged .before .before .before .args in
-    c .unmet .ensures ∙ layout-refused (entry .claims) _ (entry .code .now) (entry .targets .now) (test-fails (judged .is-layout .ensures) (c .before .if1 .taken))
+    c .unmet .ensures ∙ layout-refused (asked (entry .claims)) (entry .layout) (entry .n) (instructionIn (entry .code .now)) (entry .k) (targetRowIn (entry .targets .now))
+    (test-fails (judged .is-layout .ensures) (c .before .if1 .taken))
 
 returns-2 : tie.Need-returns-2
 returns-2 c =
     let checked = c .before .before .before in
     let layout = checked .before in
-    let judged = layout .before in
-    let entry = judged .before .before .before in
+    let entry = layout .before .before .before .before .args in
     c .check-targets .ensures
-    ∙ ap (λ (m : ℕ). firstFault (targetRules (asked (entry .args .claims) m (entry .args .targets .now)) (entry .args .targets .now))) (entry .pre .0)
-    ∙ targets-left (entry .args .claims) _ (entry .args .code .now) (entry .args .targets .now) (test-passes (judged .is-layout .ensures) (layout .if1 .left))
+    ∙ targets-left (asked (entry .claims)) (entry .layout) (entry .n) (instructionIn (entry .code .now)) (entry .k) (targetRowIn (entry .targets .now))
+    (test-passes (layout .before .is-layout .ensures) (layout .if1 .left))
     (met-names (checked .check-instructions .ensures) (c .before .enum-told .given .1))
 
 returns-3 : tie.Need-returns-3
@@ -36,12 +34,9 @@ returns-3 c =
     let checked = c .before .before .before in
     let layout = checked .before in
     let entry = layout .before .before .before .before .args in
-    instruction-refused (entry .claims) _ (entry .code .now) (entry .targets .now) (test-passes (layout .before .is-layout .ensures) (layout .if1 .left)) _
+    instruction-refused (asked (entry .claims)) (entry .layout) (entry .n) (instructionIn (entry .code .now)) (entry .k) (targetRowIn (entry .targets .now))
+    (test-passes (layout .before .is-layout .ensures) (layout .if1 .left)) _
     (unmet-names (checked .check-instructions .ensures) _ (c .before .instructions .given .1))
 
 pub check-module-spec : {M : Type 1} → statement M
-check-module-spec =
-    tie.close
-    (tie.spec
-    (λ c κs. tt) (λ c κs. tt) returns (λ c κs. c .before .before .before .before .pre .0) (λ c. search needs)
-    (λ c κs. c .before .before .before .before .before .before .before .pre .1) (λ c. search needs) returns-2 returns-3)
+check-module-spec = tie.close (tie.spec (λ c κs. tt) (λ c κs. tt) returns (λ c κs. tt) (λ c. search needs) (λ c κs. tt) (λ c. search needs) returns-2 returns-3)

@@ -1,18 +1,19 @@
 -- `reader::read::check_targets` meets its contract. The loop's invariant: the first fault from here on is the first of all.
 -- Assumes nothing.
 use Prim.Native.Nat.{_-_}
-use mathlib.Core.Path.{ap, _∙_}
+use mathlib.Core.Path.{_∙_}
 use native.Mathlib.Omega.{arith}
 use Rattle.model.specs.Answers.{ruleNumber}
+use Rattle.model.specs.File.{targetRowIn}
 use Rattle.model.proofs.Tests.{test-fails, test-passes}
 use Rattle.reader.specs.Findings.{faultIn}
 use Rattle.reader.specs.Readings.{asked}
-use Rattle.reader.proofs.Checking.{faultBelow, Judges, indexes-begin, index-fails, index-passes, indexes-pass}
+use Rattle.reader.proofs.Checking.{Judges, indexes-begin, index-fails, index-passes, indexes-pass}
 use Rattle.reader.proofs.read.check_targets.Statement.{statement}
 use Rattle.reader.proofs.read.check_targets.Tie as tie
 
 abbrev Inv-loop : tie.InvT-loop
-Inv-loop n targets k claims j₀ j = Judges 7 (asked claims n targets) k j
+Inv-loop n targets k claims j₀ j = Judges 7 (asked claims n (targetRowIn targets)) k j
 
 abbrev μ-loop : tie.MeasureT-loop
 μ-loop n targets k claims j₀ j = k - j
@@ -27,7 +28,6 @@ returns c =
     let loop = judged .before .before in
     c .unmet .ensures
     ∙ index-fails 7 _ _ _ (loop .loop .inv) (omega arith) (test-fails (judged .is-good-target .ensures) (c .before .if1 .taken))
-    ∙ ap (faultBelow 7 _) (loop .before .before .pre)
 
 loop-again : tie.Need-loop-again Inv-loop μ-loop
 loop-again c =
@@ -36,7 +36,7 @@ loop-again c =
 
 returns-2 : tie.Need-returns-2 Inv-loop μ-loop
 unfolding faultIn
-returns-2 c = indexes-pass 7 _ _ _ (c .before .loop .inv) (omega arith) ∙ ap (faultBelow 7 _) (c .before .before .before .pre)
+returns-2 c = indexes-pass 7 _ _ _ (c .before .loop .inv) (omega arith)
 
 pub check-targets-spec : {M : Type 1} → statement M
 check-targets-spec =

@@ -1,7 +1,7 @@
 -- `reader::read::read_module` meets its contract: 4, at the end of the third field, then the module of the three stretches.
 -- Assumes nothing.
 use Prim.Native.Nat.{ℕ, _^_, _<_}
-use mathlib.Core.Path.{_≡_, refl, ap, _∙_}
+use mathlib.Core.Path.{_≡_, ap, _∙_}
 use borrow.Author.Needs.{needs}
 use native.Mathlib.Omega.{arith}
 use lib.ListN.{length, getD}
@@ -65,5 +65,5 @@ read-module-spec =
     (tie.spec
     (λ c κs. omega arith) (λ c κs. omega arith) (λ c. omega arith) (λ c κs. tt) returns
     (λ c κs. tt) (λ c κs. tt) (λ c κs. tt) (λ c κs. tt)
-    (λ c. omega (arith, lengths-fit c .0)) (λ c. omega (arith, lengths-fit c .1)) (λ c κs. (refl, refl))
+    (λ c. omega (arith, lengths-fit c .0)) (λ c. omega (arith, lengths-fit c .1)) (λ c κs. tt)
     (λ c. search needs) (λ c. search needs) returns-2 returns-3)

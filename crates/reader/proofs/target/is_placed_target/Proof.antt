@@ -3,7 +3,7 @@ use mathlib.Core.Logic.{⊎-elim}
 use mathlib.Core.Path.{sym, ap, _∙_}
 use native.Mathlib.Omega.{arith}
 use borrow.Author.Tests.{not-true, not-false}
-use Rattle.model.specs.File.{isIndirectClaim}
+use Rattle.model.specs.File.{targetRowIn, isIndirectClaim}
 use Rattle.reader.proofs.Targets.{Parts, outside, unknown-kind, used-byte, narrow-claim, only-order}
 use Rattle.reader.proofs.target.is_placed_target.Statement.{statement}
 use Rattle.reader.proofs.target.is_placed_target.Tie as tie
@@ -13,7 +13,7 @@ start c = c .before .before .before
 
 parts : (c : tie.After-index-of) →
     let entry = start c .args in
-    Parts (entry .targets .now) (entry .j) (c .before .kind-of .result) (c .index-of .result)
+    Parts (targetRowIn (entry .targets .now)) (entry .j) (c .before .kind-of .result) (c .index-of .result)
 parts c = record { is-kind = c .before .kind-of .ensures; is-index = c .index-of .ensures }
 
 returns : tie.Need-returns

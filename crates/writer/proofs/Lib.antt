@@ -1,0 +1,4 @@
+pub mod Storing
+pub mod Claiming
+pub mod Filing
+pub mod Answering
