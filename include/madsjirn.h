@@ -1,23 +1,25 @@
 /*
- * madsjirn: judges and runs modules, and works out their claims. The interface of the proved library libmadsjirn.a.
+ * madsjirn: judges, runs and writes modules, and works out their claims. The interface of the proved library
+ * libmadsjirn.a.
  *
- * Every function takes anything: any bytes as a file, any machine, memory, offset and budget. There is nothing
- * to test beforehand. The only demands are those of C on pointers:
+ * Every function takes anything: any bytes as a file, any machine, memory, offset and budget, any numbers in tables.
+ * There is nothing to test beforehand. The only demands are those of C on pointers:
  *
- *   - a pointer is not NULL and is valid for its length, even where the length is 0: file and memory for
- *     file_length and memory_length bytes, machine for one madsjirn_machine;
- *   - file, machine and memory do not overlap;
+ *   - a pointer is not NULL and is valid for its length, even where the length is 0: file, memory and buffer for
+ *     file_length, memory_length and buffer_length bytes, machine for one madsjirn_machine, instructions and targets
+ *     for instruction_count times madsjirn_instruction and target_count times madsjirn_target;
+ *   - what one call is given does not overlap: file, machine and memory, or instructions, targets and buffer;
  *   - nobody else writes to them during the call.
  *
- * Nothing is kept between calls: no pointer, no state, no heap. Calls on different machines and memories may be
- * made at the same time. Each call gets the module's bytes and judges them.
+ * Nothing is kept between calls: no pointer, no state, no heap. Calls on different machines, memories and buffers may
+ * be made at the same time. Each call gets the module's bytes, or its tables, and judges them.
  *
  * The library is built for x86-64 Linux by `rt staticlib madsjirn`, which writes target/staticlib/libmadsjirn.a:
  * compile with -I include and link that file. A call of madsjirn_work_out writes less than 23,000 bytes below its
  * caller's stack pointer, one of any other function less than 900 (measured, not proved: docs/PERFORMANCE.md). No call
  * recurses or makes a system call.
  *
- * Answers are numbers: member refusal is 0, or the number of the first rule broken, in document 01's order, and
+ * Answers are numbers: member refusal is 0, or the number of the first rule broken, in the documents' order, and
  * place says where: an offset into the file, or an index, as listed below. Where refusal is 0, place means
  * nothing. No other numbers than those named below occur.
  *
@@ -34,11 +36,14 @@
 extern "C" {
 #endif
 
-/* Refusals, by the numbers of document 01's table, each with what its place is. */
+/* Refusals, by the numbers of document 01's table and, from 16 on, of document 02, each with what its place is. */
 enum {
     MADSJIRN_ACCEPTED = 0,         /* no refusal */
 
-    /* The file; judged by every function, by madsjirn_work_out without the claims of direct targets. */
+    /*
+     * The file; judged by every function that gets one, by madsjirn_work_out without the claims of direct targets.
+     * Of tables madsjirn_write judges 3, 5, 6 and 7; the offset of 3 is the one that the field would have.
+     */
     MADSJIRN_TRUNCATED = 1,        /* "short": the bytes end inside a field; the field's offset */
     MADSJIRN_WRONG_TAG = 2,        /* not the tag that is due; the field's offset */
     MADSJIRN_BAD_LENGTH = 3,       /* a length that is not listed; the field's offset */
@@ -57,7 +62,10 @@ enum {
 
     /* The call; judged by madsjirn_run and madsjirn_step. The place is 0. */
     MADSJIRN_BAD_PC = 14,          /* "bad place": the machine's pc is no instruction's index */
-    MADSJIRN_NO_ROOM = 15          /* "no ground": offset + size exceeds memory_length */
+    MADSJIRN_NO_ROOM = 15,         /* "no ground": offset + size exceeds memory_length */
+
+    /* The buffer; judged by madsjirn_write. The place is 0. */
+    MADSJIRN_NO_SPACE = 16         /* the file is longer than buffer_length */
 };
 
 /* Endings of a run. */
@@ -75,6 +83,57 @@ typedef struct {
     uint32_t registers[8];
     uint16_t pc;
 } madsjirn_machine;
+
+/* The opcodes, for member op of an instruction. docs/MODULES.md has what each does and which members it uses. */
+enum {
+    MADSJIRN_OP_HALT = 0,
+    MADSJIRN_OP_SET = 1,
+    MADSJIRN_OP_COPY = 2,
+    MADSJIRN_OP_ADD = 3,
+    MADSJIRN_OP_ADDI = 4,
+    MADSJIRN_OP_SUB = 5,
+    MADSJIRN_OP_ANDI = 6,
+    MADSJIRN_OP_GUARD = 7,
+    MADSJIRN_OP_SHR = 8,
+    MADSJIRN_OP_SAR = 9,
+    MADSJIRN_OP_LOAD = 10,
+    MADSJIRN_OP_STORE = 11,
+    MADSJIRN_OP_JUMP = 12,
+    MADSJIRN_OP_BRANCH = 13,
+    MADSJIRN_OP_CHECK = 14,
+    MADSJIRN_OP_JUMPR = 15
+};
+
+/* The kinds of a target. */
+enum {
+    MADSJIRN_DIRECT = 0,           /* "inner" */
+    MADSJIRN_INDIRECT = 1          /* "open" */
+};
+
+/* The bytes of the longest file: a buffer of so many has space for every module. */
+enum { MADSJIRN_LONGEST_FILE = 50197 };
+
+/* An instruction, as madsjirn_write takes it. Members that the opcode does not use are 0. */
+typedef struct {
+    uint32_t op;
+    uint32_t a;
+    uint32_t b;
+    uint32_t w;
+    uint32_t imm; /* a signed one in two's complement */
+} madsjirn_instruction;
+
+/* A lowest and a highest value of a register; 0 and UINT32_MAX are anything. */
+typedef struct {
+    uint32_t lowest;
+    uint32_t highest;
+} madsjirn_range;
+
+/* A target ("door"), as madsjirn_write takes it. */
+typedef struct {
+    uint32_t index;          /* of an instruction */
+    uint32_t kind;           /* MADSJIRN_DIRECT or MADSJIRN_INDIRECT */
+    madsjirn_range claim[8]; /* for r0 to r7 */
+} madsjirn_target;
 
 /* What madsjirn_read answers. Where refusal is not 0, all members after place are 0. */
 typedef struct {
@@ -102,6 +161,13 @@ typedef struct {
     uint32_t ending;  /* MADSJIRN_HALTED to MADSJIRN_OUT_OF_BUDGET; MADSJIRN_REFUSED where refusal is not 0 */
     uint32_t steps;   /* the steps made, the ending one included; 0 where refusal is not 0 */
 } madsjirn_answer;
+
+/* What madsjirn_write answers. */
+typedef struct {
+    uint32_t refusal; /* 0: the file is written; or 3, 5, 6, 7, 16 */
+    uint32_t place;
+    uint32_t length;  /* the file's bytes, 97 to MADSJIRN_LONGEST_FILE; 0 where refusal is not 0 */
+} madsjirn_written;
 
 /*
  * Reads a module file: rules 1 to 7.
@@ -165,6 +231,35 @@ madsjirn_answer madsjirn_run(const uint8_t *file, size_t file_length, madsjirn_m
 madsjirn_answer madsjirn_step(const uint8_t *file, size_t file_length, madsjirn_machine *machine, uint8_t *memory,
                               size_t memory_length, size_t offset);
 
+/*
+ * Writes a module file from its tables, for builders: document 02's ticket 5. The tables are the layout, which is base,
+ * size and guard, instruction_count instructions and target_count targets.
+ *
+ * Yields refusal 0 and the file's length, 21 + 8 * instruction_count + 68 * target_count, if the tables keep the rules
+ * of a readable file and buffer has space for it. The file is then in the first length bytes of buffer, and every byte
+ * past it is as it was. It is the only file that has these tables: madsjirn_read accepts it, with this layout and these
+ * counts, and the tables of a file that madsjirn_read accepts are written as that very file.
+ *
+ * Else yields the first rule broken, in this order, and length 0:
+ *
+ *    3  instruction_count is not 1 to 4,096, place 15; then target_count is not 1 to 256, place
+ *       18 + 8 * instruction_count: the offsets that their fields would have;
+ *    5  base, size and guard do not fit together, place 0;
+ *    6  an instruction is bad, place the lowest index of one;
+ *    7  a target is bad, place the lowest number of one, counted from 0;
+ *   16  buffer_length is less than the file's length, place 0.
+ *
+ * An op, a, b, w, index or kind that is too large for its field in the file is out of range, and so 6 or 7; no number
+ * is cut. A refused call leaves every byte of buffer as it was.
+ *
+ * The code and its claims are not judged: what was written has still to be accepted by madsjirn_verify, or by
+ * madsjirn_work_out, for which a direct target may claim anything.
+ */
+madsjirn_written madsjirn_write(uint32_t base, uint32_t size, uint32_t guard,
+                                const madsjirn_instruction *instructions, size_t instruction_count,
+                                const madsjirn_target *targets, size_t target_count, uint8_t *buffer,
+                                size_t buffer_length);
+
 /* The library was compiled for these sizes. C99 has no assertion for it. */
 #if defined(__cplusplus) && __cplusplus >= 201103L
 #define MADSJIRN_ASSERT_SIZE(type, size) static_assert(sizeof(type) == (size), "size of " #type)
@@ -177,6 +272,10 @@ MADSJIRN_ASSERT_SIZE(madsjirn_machine, 36);
 MADSJIRN_ASSERT_SIZE(madsjirn_module, 28);
 MADSJIRN_ASSERT_SIZE(madsjirn_verdict, 16);
 MADSJIRN_ASSERT_SIZE(madsjirn_answer, 16);
+MADSJIRN_ASSERT_SIZE(madsjirn_instruction, 20);
+MADSJIRN_ASSERT_SIZE(madsjirn_range, 8);
+MADSJIRN_ASSERT_SIZE(madsjirn_target, 72);
+MADSJIRN_ASSERT_SIZE(madsjirn_written, 12);
 #undef MADSJIRN_ASSERT_SIZE
 
 #ifdef __cplusplus

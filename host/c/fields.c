@@ -1,22 +1,17 @@
 /*
- * The members of the library's answers are those that the header names. Makes each of the five calls on modules
- * whose answers have different numbers in their members, and looks at every member by name: a library whose
- * structs have two members in another order gives wrong ones. Exits with 1 if any is wrong.
+ * The members of the library's answers are those that the header names. Makes each of the five calls that take a module
+ * on ones whose answers have different numbers in their members, and looks at every member by name: a library whose
+ * structs have two members in another order gives wrong ones. Exits with 1 if any is wrong. For the sixth call, which
+ * takes tables, tables.c does so.
  *
  * Where refusal is 0 the header says nothing of place, so it is looked at in refused calls only.
  */
 #include "madsjirn.h"
 
+#include "expect.h"
 #include "file_builder.h"
 
-#include <stdbool.h>
-#include <stdio.h>
 #include <string.h>
-
-/* Offsets and sizes as the header's reader expects them; host/madsjirn asserts the same of its declarations. */
-#define ASSERT_MEMBER(type, member, offset, size)                                                                    \
-    _Static_assert(offsetof(type, member) == (offset), "offset of " #member " in " #type);                           \
-    _Static_assert(sizeof(((type *)0)->member) == (size), "size of " #member " in " #type)
 
 ASSERT_MEMBER(madsjirn_machine, registers, 0, 32);
 ASSERT_MEMBER(madsjirn_machine, pc, 32, 2);
@@ -59,19 +54,6 @@ enum {
 };
 
 static uint8_t memory[MEMORY_LENGTH];
-static unsigned looked_at = 0;
-static unsigned wrong = 0;
-
-static void expect(const char *call, const char *member, uint32_t found, uint32_t due) {
-    looked_at += 1;
-    if (found != due) {
-        wrong += 1;
-        printf("  WRONG %s: %s is %u (%08x hex) and not %u (%08x hex)\n", call, member, (unsigned)found,
-               (unsigned)found, (unsigned)due, (unsigned)due);
-    }
-}
-
-#define EXPECT(call, answer, member, due) expect(call, #member, (answer).member, due)
 
 /* What register r holds before a run. */
 static uint32_t register_before(int r) {
@@ -259,6 +241,5 @@ int main(void) {
     look_at_sums();
     look_at_steps();
     look_at_refused_runs();
-    printf("%u members looked at, %u wrong\n", looked_at, wrong);
-    return wrong == 0 ? 0 : 1;
+    return looked_at_all();
 }

@@ -1,6 +1,6 @@
 /*
- * Document 01's loop, from C: verifies it, runs it, steps it, shows two refusals, and has its claims worked out. Prints
- * what it found and exits with 1 if anything differs from what the documents say.
+ * Document 01's loop, from C: verifies it, runs it, steps it, shows two refusals, has its claims worked out, and writes
+ * it from its tables. Prints what it found and exits with 1 if anything differs from what the documents say.
  */
 #include "madsjirn.h"
 
@@ -159,6 +159,50 @@ static void show_claims(void) {
     expect(same_bytes(&file, &before), "all bytes are as they were");
 }
 
+/* The loop from its tables. docs/MODULES.md shows this function. */
+static madsjirn_written write_loop(uint8_t *buffer, size_t buffer_length) {
+    static const madsjirn_instruction instructions[4] = {
+        {.op = MADSJIRN_OP_GUARD, .a = 1},
+        {.op = MADSJIRN_OP_LOAD, .a = 0, .b = 1, .w = 4, .imm = 0},
+        {.op = MADSJIRN_OP_ADDI, .a = 1, .imm = 4},
+        {.op = MADSJIRN_OP_JUMP, .imm = 1},
+    };
+    madsjirn_target targets[2] = {
+        {.index = 0, .kind = MADSJIRN_INDIRECT},
+        {.index = 1, .kind = MADSJIRN_DIRECT},
+    };
+    for (int r = 0; r < 8; r++) {
+        targets[0].claim[r].highest = targets[1].claim[r].highest = UINT32_MAX; /* anything */
+    }
+    targets[1].claim[1] = (madsjirn_range){.lowest = 0x20000000, .highest = 0x20001003};
+    return madsjirn_write(0x20000000, 4096, 256, instructions, 4, targets, 2, buffer, buffer_length);
+}
+
+static void show_writing(const file_builder *file) {
+    uint8_t buffer[MADSJIRN_LONGEST_FILE];
+    memset(buffer, 0xa5, sizeof buffer);
+    madsjirn_written written = write_loop(buffer, sizeof buffer);
+    printf("write: refusal %u, %u bytes\n", (unsigned)written.refusal, (unsigned)written.length);
+    expect(written.refusal == MADSJIRN_ACCEPTED && written.length == file->length &&
+               memcmp(buffer, file->bytes, file->length) == 0,
+           "the loop's file, byte for byte");
+    bool kept = true;
+    for (size_t i = file->length; i < sizeof buffer; i++) {
+        kept = kept && buffer[i] == 0xa5;
+    }
+    expect(kept, "all bytes past it are as they were");
+
+    memset(buffer, 0xa5, sizeof buffer);
+    written = write_loop(buffer, file->length - 1);
+    printf("write with a byte too few: refused %u %u\n", (unsigned)written.refusal, (unsigned)written.place);
+    expect(written.refusal == MADSJIRN_NO_SPACE && written.place == 0 && written.length == 0, "no space at 0");
+    kept = true;
+    for (size_t i = 0; i < sizeof buffer; i++) {
+        kept = kept && buffer[i] == 0xa5;
+    }
+    expect(kept, "all bytes are as they were");
+}
+
 int main(void) {
     const file_builder file = loop_module(GUARD, BASE, (uint32_t)BASE + SIZE + 3); /* DB to DL + 4 */
     show_reading(&file);
@@ -168,6 +212,7 @@ int main(void) {
     show_refused_run(&file, MEMORY_LENGTH - SIZE + 1);
     show_refused_run(&file, SIZE_MAX);
     show_claims();
+    show_writing(&file);
     puts(failed ? "something differs" : "all as the documents say");
     return failed ? 1 : 0;
 }

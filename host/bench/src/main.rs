@@ -2,7 +2,7 @@
 //!
 //! - `bench times`: nanoseconds, as bare numbers (`host/times` makes a table of them).
 //! - `bench count SIDE WORK N`: does one piece of work N times and prints how many instructions were judged or
-//!   steps made, for a tool that counts the processor's instructions.
+//!   written or steps made, for a tool that counts the processor's instructions.
 //! - `bench write FOLDER`: writes the modules as files, and generated ones beside them.
 
 mod time;
@@ -18,7 +18,7 @@ use work::{Bench, Work};
 const USAGE: &str = "usage: bench times
        bench count proved|hand-written WORK N
        bench write FOLDER
-WORK is read, verify, loop, mixed, judge-loop, judge-mixed, claims-mixed, claims-largest or claims-slowest";
+WORK is read, verify, write, loop, mixed, judge-loop, judge-mixed, claims-mixed, claims-largest or claims-slowest";
 
 /// How many generated files `bench write` adds.
 const GENERATED: u64 = 400;

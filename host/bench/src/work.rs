@@ -1,7 +1,7 @@
 //! The pieces of work that are measured, each done by either side.
 
-use modules::samples;
-use sides::{Machine, Side};
+use modules::{samples, tables};
+use sides::{Machine, Side, Tables};
 use std::hint::black_box;
 
 #[derive(Clone, Copy, Debug, PartialEq, Eq)]
@@ -10,6 +10,8 @@ pub enum Work {
     Read,
     /// Verifies the largest module, which reads it too.
     Verify,
+    /// Writes the largest module from its tables.
+    Write,
     /// Runs document 01's loop to its trap.
     Loop,
     /// Runs the mixed module for [`MIXED_STEPS`] steps.
@@ -27,9 +29,10 @@ pub enum Work {
 }
 
 impl Work {
-    pub const ALL: [Work; 9] = [
+    pub const ALL: [Work; 10] = [
         Work::Read,
         Work::Verify,
+        Work::Write,
         Work::Loop,
         Work::Mixed,
         Work::JudgeLoop,
@@ -43,6 +46,7 @@ impl Work {
         match self {
             Work::Read => "read",
             Work::Verify => "verify",
+            Work::Write => "write",
             Work::Loop => "loop",
             Work::Mixed => "mixed",
             Work::JudgeLoop => "judge-loop",
@@ -60,16 +64,16 @@ impl Work {
     /// What the work is divided by.
     pub fn unit(self) -> &'static str {
         match self {
-            Work::Read | Work::Verify => "instruction",
+            Work::Read | Work::Verify | Work::Write => "instruction",
             Work::Loop | Work::Mixed => "step",
             _ => "call",
         }
     }
 
-    /// The instructions that are judged, or the steps that are made; 0 where the unit is a call.
+    /// The instructions that are judged or written, or the steps that are made; 0 where the unit is a call.
     fn count(self) -> u32 {
         match self {
-            Work::Read | Work::Verify => 4096,
+            Work::Read | Work::Verify | Work::Write => 4096,
             Work::Loop => samples::LOOP_STEPS,
             Work::Mixed => MIXED_STEPS,
             _ => 0,
@@ -96,6 +100,9 @@ pub struct Bench {
     slowest: Vec<u8>,
     /// The mixed, the largest and the slowest module once more, whose claims are worked out.
     worked_out: [Vec<u8>; 3],
+    /// Those of the largest module, and the file that each side writes from them.
+    tables: Tables,
+    written: [Vec<u8>; 2],
     memories: [Vec<u8>; 2],
 }
 
@@ -104,11 +111,14 @@ const MEMORY_LENGTH: usize = 8192;
 
 impl Bench {
     pub fn new() -> Bench {
+        let tables = tables::Tables::of(&samples::largest());
         let largest = samples::largest().to_bytes();
         let mixed = samples::mixed().to_bytes();
         let slowest = samples::slowest().to_bytes();
         let bench = Bench {
             worked_out: [mixed.clone(), largest.clone(), slowest.clone()],
+            tables: Tables::new(&tables),
+            written: [(); 2].map(|()| vec![0; largest.len()]),
             largest,
             document_loop: samples::document_loop().to_bytes(),
             mixed,
@@ -132,16 +142,16 @@ impl Bench {
         ]
     }
 
-    /// Both memories as they were at first.
+    /// Both memories as they were at first, and nothing written.
     pub fn clear(&mut self) {
-        for memory in &mut self.memories {
-            memory.fill(0);
+        for bytes in self.memories.iter_mut().chain(&mut self.written) {
+            bytes.fill(0);
         }
     }
 
-    /// Whether both sides have left the same memory.
+    /// Whether both sides have left the same memory and written the same file.
     pub fn memories_agree(&self) -> bool {
-        self.memories[0] == self.memories[1]
+        self.memories[0] == self.memories[1] && self.written[0] == self.written[1]
     }
 
     /// Does a piece of work `times` times. Answers how many units were done in all.
@@ -149,6 +159,7 @@ impl Bench {
         let [claims_mixed, claims_largest, claims_slowest] = &mut self.worked_out;
         let file = match work {
             Work::Read | Work::Verify => &mut self.largest,
+            Work::Write => &mut self.written[side as usize],
             Work::Loop | Work::JudgeLoop => &mut self.document_loop,
             Work::Mixed | Work::JudgeMixed => &mut self.mixed,
             Work::ClaimsMixed => claims_mixed,
@@ -157,15 +168,15 @@ impl Bench {
         };
         let memory = &mut self.memories[side as usize];
         for _ in 0..times {
-            let count = do_once(side, file, memory, work);
+            let count = do_once(side, file, &self.tables, memory, work);
             assert_eq!(count, work.count(), "{}", work.name());
         }
         u64::from(work.count().max(1)) * u64::from(times)
     }
 }
 
-/// Does a piece of work and answers the instructions judged, or the steps made.
-fn do_once(side: Side, file: &mut [u8], memory: &mut [u8], work: Work) -> u32 {
+/// Does a piece of work and answers the instructions judged or written, or the steps made.
+fn do_once(side: Side, file: &mut [u8], tables: &Tables, memory: &mut [u8], work: Work) -> u32 {
     match work {
         // The claims that the file has then are ignored the next time, so that each time is like the first.
         Work::ClaimsMixed | Work::ClaimsLargest | Work::ClaimsSlowest => {
@@ -182,6 +193,11 @@ fn do_once(side: Side, file: &mut [u8], memory: &mut [u8], work: Work) -> u32 {
             let verified = side.verify(black_box(file));
             let [instructions, _] = black_box(verified).expect("the module is accepted");
             instructions
+        }
+        Work::Write => {
+            let written = side.write(black_box(tables), black_box(file));
+            let length = black_box(written).expect("the tables are good");
+            (length - 21 - 256 * 68) / 8
         }
         Work::Loop | Work::Mixed | Work::JudgeLoop | Work::JudgeMixed => {
             let mut machine = Machine {

@@ -1,9 +1,11 @@
-//! One generated file: what `read` and `verify` answer, and what `work_out` makes of it.
+//! One generated file: what `read` and `verify` answer, what `work_out` makes of it, and what `write` makes of its
+//! tables.
 
 use crate::difference::hexadecimal;
 use crate::signed::Seen;
 use crate::tally::Tally;
 use crate::worked::Worked;
+use crate::written::Written;
 use modules::generate::{generate, Generated, Origin};
 use modules::random::Random;
 use sides::{verify_by_earlier_rule_n, Side, Verdict};
@@ -30,8 +32,10 @@ fn judge(generated: &Generated, random: &mut Random, tally: &mut Tally) -> Resul
         return Err("made to be accepted without the sign, but is not".into());
     }
     let worked = Worked::of(file, verified, random)?;
+    let written = Written::of(file, read, random)?;
     tally.count_module(generated.origin, read, verified);
     tally.count_worked(generated.origin, &worked);
+    tally.count_written(generated.origin, &written);
     tally.count_turn(generated.origin, verified, earlier);
     tally.count_signed(generated.origin, &seen);
     Ok(())

@@ -1,4 +1,5 @@
-//! Compares the proved library with the hand-written one on generated modules, on lists of runs and on single accesses.
+//! Compares the proved library with the hand-written one on generated modules and their tables, on lists of runs and on
+//! single accesses.
 
 mod accesses;
 mod by_origin;
@@ -11,11 +12,13 @@ mod signed;
 mod tally;
 mod turns;
 mod worked;
+mod written;
 
 pub use difference::Difference;
 pub use signed::Seen;
 pub use tally::Tally;
 pub use worked::Worked;
+pub use written::Written;
 
 use accesses::Access;
 use difference::guarded;

@@ -1,11 +1,13 @@
-//! How often each refusal, each ending, each turn of a verdict, each kind of signed load, of claims that are worked out
-//! and of single accesses occurred, so that nothing is believed compared that never happened.
+//! How often each refusal, each ending, each turn of a verdict, each kind of signed load, of claims that are worked
+//! out, of tables that are written and of single accesses occurred, so that nothing is believed compared that never
+//! happened.
 
 use crate::accesses::Accesses;
 use crate::counts::Counts;
 use crate::signed::{Seen, Signed};
 use crate::turns::Turns;
 use crate::worked::{Worked, Workings};
+use crate::written::{Writings, Written};
 use madsjirn::{Ending, Rule};
 use modules::generate::Origin;
 use sides::{Ran, Read, Refused, Verdict};
@@ -19,6 +21,7 @@ pub struct Tally {
     turns: Turns,
     signed: Signed,
     workings: Workings,
+    writings: Writings,
     pub accesses: Accesses,
     /// Refusals by number; 0 counts what was not refused.
     read: Counts,
@@ -64,6 +67,11 @@ impl Tally {
         self.workings.count(origin, worked);
     }
 
+    /// Counts what became of a file's tables.
+    pub fn count_written(&mut self, origin: Origin, written: &Written) {
+        self.writings.count(origin, written);
+    }
+
     pub fn count_list(&mut self) {
         self.lists += 1;
     }
@@ -79,7 +87,8 @@ impl Tally {
         }
     }
 
-    /// The refusals, endings, turns, and kinds of signed loads, of claims worked out and of accesses that never occurred.
+    /// The refusals, endings, turns, and kinds of signed loads, of claims worked out, of tables written and of accesses
+    /// that never occurred.
     pub fn missing(&self) -> Vec<String> {
         let refusals = Rule::ALL.into_iter().filter(|rule| {
             let times = self.refusals(rule.number());
@@ -93,17 +102,24 @@ impl Tally {
             .chain(self.turns.missing())
             .chain(self.signed.missing())
             .chain(self.workings.missing())
+            .chain(self.writings.missing())
             .chain(self.accesses.missing())
             .collect()
     }
 
-    /// The refusals of read, verify, work_out and run.
-    fn answers(&self) -> [&Counts; 4] {
-        [&self.read, &self.verify, &self.work_out, &self.run]
+    /// The refusals of read, verify, work_out, write and run.
+    fn answers(&self) -> [&Counts; 5] {
+        [
+            &self.read,
+            &self.verify,
+            &self.work_out,
+            &self.writings.refusals,
+            &self.run,
+        ]
     }
 
     /// How often each of them answered a refusal.
-    fn refusals(&self, number: u32) -> [u64; 4] {
+    fn refusals(&self, number: u32) -> [u64; 5] {
         self.answers().map(|counts| counts.of(number))
     }
 
@@ -154,8 +170,8 @@ impl Tally {
     fn write_refusals(&self, out: &mut fmt::Formatter<'_>) -> fmt::Result {
         writeln!(
             out,
-            "{:<34} {:>9} {:>9} {:>9} {:>9}",
-            "refusals", "read", "verify", "work out", "run"
+            "{:<34} {:>9} {:>9} {:>9} {:>9} {:>9}",
+            "refusals", "read", "verify", "work out", "write", "run"
         )?;
         for number in self.refusal_numbers() {
             write!(out, "  {number:>2} {:<29}", refusal_name(number))?;
@@ -200,6 +216,7 @@ impl fmt::Display for Tally {
         self.turns.fmt(out)?;
         self.signed.write_modules(out)?;
         self.workings.fmt(out)?;
+        self.writings.fmt(out)?;
         self.write_lists(out)?;
         self.signed.write_runs(out)?;
         self.accesses.fmt(out)?;

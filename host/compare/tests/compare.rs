@@ -1,12 +1,12 @@
 //! A smaller portion of what the program `compare` does.
 
-use compare::{compare, Seen, Tally, Worked, SEED};
+use compare::{compare, Seen, Tally, Worked, Written, SEED};
 use modules::assembler::*;
 use modules::encode::{claim, test, Instruction, Layout, Module, Range, Target};
 use modules::gate;
 use modules::generate::Origin;
 use modules::random::Random;
-use modules::samples::document_loop;
+use modules::samples::{document_loop, mixed};
 use sides::Side;
 
 #[test]
@@ -196,4 +196,41 @@ fn files_with_claims() -> Vec<(Vec<u8>, Vec<&'static str>)> {
             vec!["refused 7 at a later target", "refused 7"],
         ),
     ]
+}
+
+#[test]
+fn a_kind_of_tables_written_that_never_occurred_is_missing() {
+    let file = mixed().to_bytes();
+    let mut tally = Tally::default();
+    let all = missing_tables(&tally).len();
+    // A file whose fields are not whole has no tables.
+    assert_eq!(count_tables(&mut tally, &file[1..], 0), 0);
+    assert_eq!(missing_tables(&tally).len(), all);
+    // Each shows that it is written, and at least one fault.
+    assert!(count_tables(&mut tally, &file, 0) >= 2);
+    assert!(missing_tables(&tally).len() <= all - 2);
+    for case in 1..2_000 {
+        count_tables(&mut tally, &file, case);
+    }
+    let due = [5, 6, 7].map(|number| format!("refused {number}, as its file"));
+    assert_eq!(missing_tables(&tally), due);
+    for case in gate::cases() {
+        count_tables(&mut tally, &case.file, 0);
+    }
+    assert_eq!(missing_tables(&tally), Vec::<String>::new());
+}
+
+/// Counts what a file's tables show with the faults of a case, and gives how many kinds these are.
+fn count_tables(tally: &mut Tally, file: &[u8], case: u64) -> usize {
+    let read = Side::HandWritten.read(file);
+    let written = Written::of(file, read, &mut Random::for_case(SEED, case));
+    let written = written.expect("both answer alike");
+    tally.count_written(Origin::Near, &written);
+    written.kinds()
+}
+
+fn missing_tables(tally: &Tally) -> Vec<String> {
+    let missing = tally.missing().into_iter();
+    let kinds = missing.filter_map(|kind| Some(kind.strip_suffix(" (tables written)")?.into()));
+    kinds.collect()
 }

@@ -1,6 +1,6 @@
-//! Reader, verifier and stepping machine for modules, and the working out of their claims.
+//! Reader, verifier, stepping machine and writer for modules, and the working out of their claims.
 //!
-//! Nothing is kept between calls: each one is handed the module's bytes and judges them afresh.
+//! Nothing is kept between calls: each one is handed the module's bytes, or its tables, and judges them afresh.
 //! There is no heap, and no table on the stack above one kibibyte, but for the claims while they are worked out: these
 //! take 19.
 //!
@@ -18,13 +18,14 @@ mod machine;
 mod ranges;
 mod reader;
 mod verifier;
+mod writer;
 
 use claims::Claims;
 
 // Addresses are 32 bits and are used as slice offsets.
 const _: () = assert!(usize::BITS >= 32);
 
-/// Why a module or a run was refused: the refusal's number and its place.
+/// Why a module, a run or a set of tables was refused: the refusal's number and its place.
 #[derive(Clone, Copy, Debug, PartialEq, Eq)]
 pub struct Refusal {
     pub number: u32,
@@ -39,6 +40,32 @@ pub struct Module {
     pub guard: u32,
     pub instructions: u32,
     pub targets: u32,
+}
+
+/// Base, size and guard.
+#[derive(Clone, Copy, Debug, PartialEq, Eq)]
+pub struct Layout {
+    pub base: u32,
+    pub size: u32,
+    pub guard: u32,
+}
+
+/// An instruction's row in a table that is to be written. The numbers may be any.
+#[derive(Clone, Copy, Debug, PartialEq, Eq)]
+pub struct InstructionRow {
+    pub op: u32,
+    pub a: u32,
+    pub b: u32,
+    pub w: u32,
+    pub imm: u32,
+}
+
+/// A target's row, with the lowest and the highest value for each register. The numbers may be any.
+#[derive(Clone, Copy, Debug, PartialEq, Eq)]
+pub struct TargetRow {
+    pub index: u32,
+    pub kind: u32,
+    pub claim: [[u32; 2]; 8],
 }
 
 /// A module that the verifier accepts.
@@ -137,6 +164,17 @@ pub fn sweeps(file: &[u8]) -> Result<Sweeps, Refusal> {
     let mut claims = Claims::NONE;
     claims.work_out(&reader::parts::<false>(file)?);
     Ok(claims.sweeps)
+}
+
+/// Writes the file that has these tables into the beginning of the buffer, and gives its length.
+/// Refusals 3, 5, 6, 7 and 16; a refusal leaves the buffer as it was, and bytes past the file stay in any case.
+pub fn write(
+    layout: Layout,
+    instructions: &[InstructionRow],
+    targets: &[TargetRow],
+    buffer: &mut [u8],
+) -> Result<u32, Refusal> {
+    writer::write(layout, instructions, targets, buffer)
 }
 
 /// Steps the machine at most `budget` times, with the region at `offset` in `memory`.

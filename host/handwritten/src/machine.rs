@@ -1,8 +1,8 @@
 //! The stepping machine.
 
 use crate::decoder::Decoder;
-use crate::reader::{index, is_indirect, Instruction, Layout, Parts, Target, MAX_INSTRUCTIONS};
-use crate::{Ending, Machine, Run};
+use crate::reader::{index, is_indirect, Instruction, Parts, Target, MAX_INSTRUCTIONS};
+use crate::{Ending, Layout, Machine, Run};
 
 /// One bit for each index that an instruction can have.
 type Bitmap = [u64; MAX_INSTRUCTIONS / 64];

@@ -1,7 +1,8 @@
 //! Ranges of registers: the table's range column, and rules W, N and B.
 
 use crate::decoder::Decoder;
-use crate::reader::{Layout, Target};
+use crate::reader::Target;
+use crate::Layout;
 
 /// A register's lowest value in the low half and its highest in the high half, as in a claim.
 /// One word, so that a range is stored as a whole and a later load never waits for two stores.

@@ -2,20 +2,16 @@
 
 use crate::decoder::SIGN;
 use crate::ranges::{high, low, ANYTHING};
-use crate::{Accepted, Refusal};
+use crate::{Accepted, Layout, Refusal};
 
 pub(crate) const MAX_INSTRUCTIONS: usize = 4096;
 pub(crate) const MAX_TARGETS: usize = 256;
 
+/// The bytes before the instructions: the first field, and the header of the second.
+pub(crate) const HEAD: usize = 3 + 12 + 3;
+
 pub(crate) type Instruction = [u8; 8];
 pub(crate) type Target = [u8; 68];
-
-#[derive(Clone, Copy)]
-pub(crate) struct Layout {
-    pub base: u32,
-    pub size: u32,
-    pub guard: u32,
-}
 
 /// A well-formed module, still in the file's bytes.
 pub(crate) struct Parts<'a> {
@@ -62,7 +58,7 @@ pub(crate) fn parts<const CLAIMED: bool>(file: &[u8]) -> Result<Parts<'_>, Refus
     })
 }
 
-fn refusal(number: u32, place: usize) -> Refusal {
+pub(crate) fn refusal(number: u32, place: usize) -> Refusal {
     Refusal {
         number,
         place: place as u32,
@@ -99,13 +95,18 @@ fn read_layout(value: &[u8]) -> Option<Layout> {
     let base = u32::from_le_bytes(*base);
     let size = u32::from_le_bytes(*size);
     let guard = u32::from_le_bytes(*guard);
-    let good = size.is_power_of_two()
+    let layout = Layout { base, size, guard };
+    layout_is_good(layout).then_some(layout)
+}
+
+pub(crate) fn layout_is_good(layout: Layout) -> bool {
+    let Layout { base, size, guard } = layout;
+    size.is_power_of_two()
         && (256..=65_536).contains(&size)
         && guard <= 4096
         && base & (size - 1) == 0
         && base >= guard
-        && u64::from(base) + u64::from(size) + u64::from(guard) <= 1 << 32;
-    good.then_some(Layout { base, size, guard })
+        && u64::from(base) + u64::from(size) + u64::from(guard) <= 1 << 32
 }
 
 /// The bits that must be zero, by opcode and the low three bits of w.
@@ -146,13 +147,14 @@ const fn forbidden_table() -> [u64; 128] {
     table
 }
 
-fn faults(instruction: &Instruction) -> u64 {
-    let bits = u64::from_le_bytes(*instruction);
+/// The bits of an instruction that must be zero and are not.
+pub(crate) fn faults(bits: u64) -> u64 {
     bits & FORBIDDEN[(bits & 15 | bits >> 20 & 0x70) as usize]
 }
 
 fn judge_code(code: &[Instruction]) -> Result<(), Refusal> {
     // Sum up first: good code is the common case and this loop has no exits.
+    let faults = |i: &Instruction| faults(u64::from_le_bytes(*i));
     let all = code.iter().fold(0, |all, i| all | faults(i));
     if all == 0 {
         return Ok(());

@@ -1,10 +1,12 @@
-//! Verifies and runs document 01's loop. It reads its region word by word, has no test for the end, and is safe: the
-//! guard zone stops it.
+//! Writes, verifies and runs document 01's loop. It reads its region word by word, has no test for the end, and is
+//! safe: the guard zone stops it.
 
-use madsjirn::{read, verify, Layout, Machine, Refusal, Verified};
+use madsjirn::assembly::*;
+use madsjirn::{read, verify, write, Layout, Machine, Refusal, Target, Verified, LONGEST_FILE};
 
 fn main() -> Result<(), Refusal> {
-    let file = loop_file(256);
+    let file = loop_file(256)?;
+    println!("written: {} bytes", file.len());
     let Layout { base, size, guard } = read(&file)?.layout;
     println!("base {base:#x}, size {size}, guard {guard}");
     let verified = verify(&file)?;
@@ -14,7 +16,7 @@ fn main() -> Result<(), Refusal> {
         verified.targets()
     );
     run_to_its_end(verified, size as usize)?;
-    match verify(&loop_file(6)) {
+    match verify(&loop_file(6)?) {
         Ok(_) => println!("a guard of 6 bytes: accepted"),
         Err(refusal) => println!("a guard of 6 bytes: {refusal}"),
     }
@@ -37,38 +39,24 @@ fn run_to_its_end(module: Verified<'_>, size: usize) -> Result<(), Refusal> {
 }
 
 /// The loop as a module file, with guard zones of that many bytes.
-fn loop_file(guard: u32) -> Vec<u8> {
-    let mut layout = Vec::new();
-    for word in [0x2000_0000, 4096, guard] {
-        layout.extend(word.to_le_bytes());
-    }
-    let code = [
-        [7, 1, 0, 0, 0, 0, 0, 0],  // 0 guard r1
-        [10, 0, 1, 4, 0, 0, 0, 0], // 1 load r0, r1, width 4, imm 0
-        [4, 1, 0, 0, 4, 0, 0, 0],  // 2 addi r1, 4
-        [12, 0, 0, 0, 1, 0, 0, 0], // 3 jump 1
+fn loop_file(guard_bytes: u32) -> Result<Vec<u8>, Refusal> {
+    let layout = Layout {
+        base: 0x2000_0000,
+        size: 4096,
+        guard: guard_bytes,
+    };
+    let instructions = [
+        guard(R1),
+        load(R0, R1, Width::Word, 0),
+        addi(R1, 4),
+        jump(1),
     ];
-    let anything = [0, u32::MAX];
-    let mut targets = target([0, 0, 1, 0], anything);
-    targets.extend(target([1, 0, 0, 0], [0x2000_0000, 0x2000_1003]));
-    [
-        field(1, &layout),
-        field(2, code.as_flattened()),
-        field(3, &targets),
-    ]
-    .concat()
-}
-
-/// A target that claims a range for r1 and nothing for the others: index, kind and a zero, then eight ranges.
-fn target(index_and_kind: [u8; 4], r1: [u32; 2]) -> Vec<u8> {
-    let mut claim = [[0, u32::MAX]; 8];
-    claim[1] = r1;
-    let claim = claim.into_iter().flatten().flat_map(u32::to_le_bytes);
-    index_and_kind.into_iter().chain(claim).collect()
-}
-
-/// Tag, length and value.
-fn field(tag: u8, value: &[u8]) -> Vec<u8> {
-    let [low, high] = (value.len() as u16).to_le_bytes();
-    [&[tag, low, high], value].concat()
+    let targets = [
+        Target::indirect(0),
+        Target::direct(1).claim(R1, 0x2000_0000..=0x2000_1003),
+    ];
+    let mut file = vec![0; LONGEST_FILE];
+    let length = write(layout, &instructions, &targets, &mut file)?;
+    file.truncate(length);
+    Ok(file)
 }

@@ -1,6 +1,6 @@
 //! The C interface of the proved library, `include/madsjirn.h`. All of this package's `unsafe` is here.
 
-use crate::Machine;
+use crate::{Instruction, Layout, Machine, Target};
 
 /// `MADSJIRN_REFUSED`: the ending of a run that was not made.
 pub(crate) const REFUSED: u32 = 5;
@@ -35,6 +35,14 @@ pub(crate) struct Answer {
     pub(crate) steps: u32,
 }
 
+/// `madsjirn_written`.
+#[repr(C)]
+pub(crate) struct Written {
+    pub(crate) refusal: u32,
+    pub(crate) place: u32,
+    pub(crate) length: u32,
+}
+
 extern "C" {
     fn madsjirn_read(file: *const u8, file_length: usize) -> Module;
     fn madsjirn_verify(file: *const u8, file_length: usize) -> Verdict;
@@ -56,6 +64,17 @@ extern "C" {
         memory_length: usize,
         offset: usize,
     ) -> Answer;
+    fn madsjirn_write(
+        base: u32,
+        size: u32,
+        guard: u32,
+        instructions: *const Instruction,
+        instruction_count: usize,
+        targets: *const Target,
+        target_count: usize,
+        buffer: *mut u8,
+        buffer_length: usize,
+    ) -> Written;
 }
 
 pub(crate) fn read(file: &[u8]) -> Module {
@@ -108,6 +127,30 @@ pub(crate) fn step(file: &[u8], machine: &mut Machine, memory: &mut [u8], offset
             memory.as_mut_ptr(),
             memory.len(),
             offset,
+        )
+    }
+}
+
+pub(crate) fn write(
+    layout: Layout,
+    instructions: &[Instruction],
+    targets: &[Target],
+    buffer: &mut [u8],
+) -> Written {
+    // SAFETY: the pointers are valid for their lengths and not null, since they come from slices; `buffer` is
+    // borrowed mutably, so nothing overlaps it. `Instruction` and `Target` have the layout of
+    // `madsjirn_instruction` and `madsjirn_target`. The function takes any numbers and keeps no pointer.
+    unsafe {
+        madsjirn_write(
+            layout.base,
+            layout.size,
+            layout.guard,
+            instructions.as_ptr(),
+            instructions.len(),
+            targets.as_ptr(),
+            targets.len(),
+            buffer.as_mut_ptr(),
+            buffer.len(),
         )
     }
 }

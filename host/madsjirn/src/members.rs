@@ -1,8 +1,8 @@
-//! The structs that are declared again here are those of `include/madsjirn.h`, member by member: `host/c/fields.c`
-//! asserts the same offsets and sizes of the header. A difference is an error when this package is compiled.
+//! The structs that are declared again here are those of `include/madsjirn.h`, member by member: `host/c/fields.c` and
+//! `host/c/tables.c` assert the same offsets and sizes of the header. A difference is an error when this package is compiled.
 
-use crate::ffi::{Answer, Module, Verdict};
-use crate::Machine;
+use crate::ffi::{Answer, Module, Verdict, Written};
+use crate::{Instruction, Machine, Range, Target};
 use core::mem::offset_of;
 
 /// The size of the member that a function picks.
@@ -47,4 +47,24 @@ assert_members!(
     place at 4 with 4,
     ending at 8 with 4,
     steps at 12 with 4
+);
+
+assert_members!(
+    Instruction, 20,
+    op at 0 with 4,
+    a at 4 with 4,
+    b at 8 with 4,
+    w at 12 with 4,
+    imm at 16 with 4
+);
+
+assert_members!(Range, 8, lowest at 0 with 4, highest at 4 with 4);
+
+assert_members!(Target, 72, index at 0 with 4, kind at 4 with 4, claim at 8 with 64);
+
+assert_members!(
+    Written, 12,
+    refusal at 0 with 4,
+    place at 4 with 4,
+    length at 8 with 4
 );

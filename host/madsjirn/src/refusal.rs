@@ -1,9 +1,10 @@
-//! Why a module or a run is refused.
+//! Why a module, a run or a set of tables is refused.
 
 use core::error::Error;
 use core::fmt;
 
-/// A rule that a refused module or run breaks. The numbers and words are those of document 01's table.
+/// A rule that a refused module, run or set of tables breaks. The numbers and words are those of document 01's table
+/// and, from 16 on, of document 02.
 #[derive(Clone, Copy, Debug, PartialEq, Eq, PartialOrd, Ord, Hash)]
 #[repr(u32)]
 pub enum Rule {
@@ -11,7 +12,8 @@ pub enum Rule {
     Truncated = 1,
     /// 2, "wrong tag": not the tag that is due. The place is the field's offset.
     WrongTag = 2,
-    /// 3, "bad length": a length that is not listed for the field. The place is the field's offset.
+    /// 3, "bad length": a length that is not listed for the field; of tables, too few or too many instructions or
+    /// targets. The place is the field's offset, or the one that it would have.
     BadLength = 3,
     /// 4, "tail": bytes after the third field. The place is the offset of the first.
     TrailingBytes = 4,
@@ -42,11 +44,13 @@ pub enum Rule {
     BadPc = 14,
     /// 15, "no ground": offset + size exceeds the lent memory. The place is 0.
     NoRoom = 15,
+    /// 16, "no space": a file is longer than the buffer that it is to be written into. The place is 0.
+    NoSpace = 16,
 }
 
 impl Rule {
     /// All rules, by number.
-    pub const ALL: [Rule; 15] = [
+    pub const ALL: [Rule; 16] = [
         Rule::Truncated,
         Rule::WrongTag,
         Rule::BadLength,
@@ -62,9 +66,10 @@ impl Rule {
         Rule::FallsOff,
         Rule::BadPc,
         Rule::NoRoom,
+        Rule::NoSpace,
     ];
 
-    /// The rule's number in document 01's table, 1 to 15.
+    /// The rule's number in the documents, 1 to 16.
     pub fn number(self) -> u32 {
         self as u32
     }
@@ -93,10 +98,11 @@ impl Rule {
             Rule::FallsOff => "falls off",
             Rule::BadPc => "bad pc",
             Rule::NoRoom => "no room",
+            Rule::NoSpace => "no space",
         }
     }
 
-    /// Document 01's word for the rule.
+    /// The documents' word for the rule.
     pub fn word(self) -> &'static str {
         match self {
             Rule::Truncated => "short",
@@ -122,7 +128,7 @@ impl fmt::Display for Rule {
     }
 }
 
-/// A refusal: the first rule broken, in document 01's order, and where.
+/// A refusal: the first rule broken, in the documents' order, and where.
 #[derive(Clone, Copy, Debug, PartialEq, Eq, Hash)]
 pub struct Refusal {
     /// The rule that is broken.

@@ -28,23 +28,14 @@ pub fn verify(file: &[u8]) -> Result<Verified<'_>, Refusal> {
 /// Refusals are 1 to 7, where those claims break no rule, and then 8 to 13 but never 11.
 ///
 /// ```
-/// use madsjirn::{verify, work_out, Rule};
+/// use madsjirn::assembly::*;
+/// use madsjirn::{verify, work_out, write, Layout, Rule, Target};
 ///
 /// # fn main() -> Result<(), madsjirn::Refusal> {
-/// let mut file = vec![0x01, 12, 0];
-/// for word in [0x2000_0000u32, 4096, 4] {
-///     file.extend(word.to_le_bytes()); // base, size, guard
-/// }
-/// file.extend([0x02, 4 * 8, 0]);
-/// file.extend([7, 1, 0, 0, 0, 0, 0, 0]); // 0 guard r1
-/// file.extend([10, 0, 1, 4, 0, 0, 0, 0]); // 1 load r0, r1, width 4, imm 0
-/// file.extend([4, 1, 0, 0, 4, 0, 0, 0]); // 2 addi r1, 4
-/// file.extend([12, 0, 0, 0, 1, 0, 0, 0]); // 3 jump 1
-/// file.extend([0x03, 2 * 68, 0]);
-/// for (index, kind) in [(0, 1), (1, 0)] {
-///     file.extend([index, 0, kind, 0]);
-///     file.extend([[0u32, u32::MAX]; 8].into_iter().flatten().flat_map(u32::to_le_bytes));
-/// }
+/// let layout = Layout { base: 0x2000_0000, size: 4096, guard: 4 };
+/// let instructions = [guard(R1), load(R0, R1, Width::Word, 0), addi(R1, 4), jump(1)];
+/// let mut file = [0; 189];
+/// write(layout, &instructions, &[Target::indirect(0), Target::direct(1)], &mut file)?;
 /// // Anything is claimed for r1 at index 1, and then the load may reach anywhere.
 /// assert_eq!(verify(&file).unwrap_err().rule, Rule::WildAccess);
 ///
@@ -91,20 +82,14 @@ fn accepted(verdict: ffi::Verdict, file: &[u8]) -> Result<Verified<'_>, Refusal>
 /// machine that stands elsewhere.
 ///
 /// ```
-/// use madsjirn::{verify, Ending, Machine};
+/// use madsjirn::assembly::*;
+/// use madsjirn::{verify, write, Ending, Layout, Machine, Target};
 ///
 /// # fn main() -> Result<(), madsjirn::Refusal> {
-/// let mut file = vec![0x01, 12, 0];
-/// for word in [0x2000_0000u32, 4096, 256] {
-///     file.extend(word.to_le_bytes()); // base, size, guard
-/// }
-/// file.extend([0x02, 3 * 8, 0]);
-/// file.extend([7, 1, 0, 0, 0, 0, 0, 0]); // 0 guard r1
-/// file.extend([10, 0, 1, 4, 0, 0, 0, 0]); // 1 load r0, r1, width 4, imm 0
-/// file.extend([0; 8]); // 2 halt
-/// file.extend([0x03, 68, 0]);
-/// file.extend([0, 0, 1, 0]); // index 0 is an indirect target
-/// file.extend([[0u32, u32::MAX]; 8].into_iter().flatten().flat_map(u32::to_le_bytes));
+/// let layout = Layout { base: 0x2000_0000, size: 4096, guard: 256 };
+/// let instructions = [guard(R1), load(R0, R1, Width::Word, 0), halt()];
+/// let mut file = [0; 113];
+/// write(layout, &instructions, &[Target::indirect(0)], &mut file)?;
 ///
 /// let verified = verify(&file)?;
 /// assert_eq!((verified.instructions(), verified.targets()), (3, 1));

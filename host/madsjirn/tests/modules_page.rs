@@ -5,11 +5,18 @@
 //! program prints for it. A line of the block is an offset, a colon, bytes in hex and, after `#`, a remark.
 //! A module is a whole file; a change is other bytes for some of the last module above it. In a block `changes`
 //! every line is a change by itself, and what is printed stands before it and a bar.
+//!
+//! A block `rust` is the file `write_loop/mod.rs`, and a block `c` stands in `host/c/loop.c`. Both write the first
+//! module.
+
+// As the page shows it.
+#[rustfmt::skip]
+mod write_loop;
 
 use std::fs;
 use std::path::Path;
 
-use madsjirn::{verify, work_out, Ending, Machine, Refusal, Rule, Run};
+use madsjirn::{verify, work_out, Ending, Machine, Refusal, Rule, Run, LONGEST_FILE};
 
 /// A file of the repository.
 fn bytes_of(path: &str) -> Vec<u8> {
@@ -73,6 +80,35 @@ fn runs_end_as_the_page_says() {
     assert_eq!((run.ending, run.steps), (Ending::Halted, 50));
 }
 
+#[test]
+fn the_loop_is_written_as_the_page_says() {
+    let page = page();
+    assert_eq!(sources(&page, "rust"), [include_str!("write_loop/mod.rs")]);
+    let in_c = sources(&page, "c");
+    let program = String::from_utf8(bytes_of("host/c/loop.c")).expect("the program is text");
+    assert_eq!(in_c.len(), 1, "functions in C on the page");
+    assert!(
+        program.contains(&in_c[0]),
+        "the function in C is the program's"
+    );
+
+    let mut buffer = [0; LONGEST_FILE];
+    let length = write_loop::write_loop(&mut buffer).expect("the loop is written");
+    assert_eq!(buffer[..length], judge_page(&page)[0]);
+}
+
+/// The blocks of a page that are in a language.
+fn sources(page: &str, language: &str) -> Vec<String> {
+    let begin = format!("```{language}");
+    let mut lines = page.lines();
+    let mut sources = Vec::new();
+    while lines.any(|line| line == begin) {
+        let block = lines.by_ref().take_while(|line| *line != "```");
+        sources.push(block.map(|line| format!("{line}\n")).collect());
+    }
+    sources
+}
+
 /// With claims that no verifier accepts over those of the direct targets, every module of the page is accepted again.
 #[test]
 fn claims_are_worked_out() {
@@ -82,7 +118,11 @@ fn claims_are_worked_out() {
         let accepted = verify(&module).map(|module| (module.instructions(), module.targets()));
         assert_eq!(answered, accepted, "module {number} of the page");
         if number == 1 {
-            assert_eq!(file[133..141], [0, 0, 0, 0x20, 0, 0x10, 0, 0x20], "r1 in the loop's claim");
+            assert_eq!(
+                file[133..141],
+                [0, 0, 0, 0x20, 0, 0x10, 0, 0x20],
+                "r1 in the loop's claim"
+            );
         }
     }
 }
@@ -91,7 +131,10 @@ fn claims_are_worked_out() {
 fn garbled(module: &[u8]) -> Vec<u8> {
     let mut file = module.to_vec();
     let code = usize::from(u16::from_le_bytes([file[16], file[17]]));
-    for target in file[21 + code..].chunks_exact_mut(68).filter(|target| target[2] == 0) {
+    for target in file[21 + code..]
+        .chunks_exact_mut(68)
+        .filter(|target| target[2] == 0)
+    {
         for range in target[4..].chunks_exact_mut(8) {
             range.copy_from_slice(&[0xFF, 0xFF, 0xFF, 0xFF, 0, 0, 0, 0]);
         }
@@ -197,6 +240,7 @@ fn examples(page: &str) -> Vec<Example> {
             ("module", words) => examples.push(example(Kind::Module, words, line, block)),
             ("change", words) => examples.push(example(Kind::Change, words, line, block)),
             ("changes", "") => examples.extend(block.map(|(text, line)| single_change(text, line))),
+            ("rust" | "c", "") => block.for_each(drop),
             _ => panic!("line {line} of the page: a block that is no example"),
         }
     }

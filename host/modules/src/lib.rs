@@ -1,4 +1,5 @@
-//! Module files for tests and measurements: an encoder, samples, a generator and cases for the gate program.
+//! Module files for tests and measurements: an encoder, samples, tables to be written, a generator and cases for the
+//! gate program.
 
 pub mod assembler;
 pub mod encode;
@@ -8,3 +9,4 @@ pub mod random;
 mod ranges;
 pub mod rule_n;
 pub mod samples;
+pub mod tables;

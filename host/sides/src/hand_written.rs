@@ -1,7 +1,8 @@
 //! The hand-written implementation.
 
-use crate::{ending, Machine, Ran, Read, Refused, Verdict};
-use handwritten::{Accepted, Ending, Module, Refusal, Sweeps};
+use crate::{ending, Machine, Ran, Read, Refused, Verdict, Written};
+use handwritten::{Accepted, Ending, InstructionRow, Layout, Module, Refusal, Sweeps, TargetRow};
+use modules::{encode, tables};
 
 fn refused(refusal: Refusal) -> Refused {
     (refusal.number, refusal.place)
@@ -47,6 +48,47 @@ pub fn work_out(file: &mut [u8]) -> Verdict {
 /// What the sweeps of `work_out` come to: the kinds of growth are told by it.
 pub fn sweeps(file: &[u8]) -> Result<Sweeps, Refused> {
     handwritten::sweeps(file).map_err(refused)
+}
+
+/// Tables as it takes them.
+pub struct Tables {
+    layout: Layout,
+    instructions: Vec<InstructionRow>,
+    targets: Vec<TargetRow>,
+}
+
+impl Tables {
+    pub fn new(tables: &tables::Tables) -> Tables {
+        let encode::Layout { base, size, guard } = tables.layout;
+        let instructions = tables.instructions.iter();
+        let instructions = instructions.map(|row| InstructionRow {
+            op: row.op,
+            a: row.a,
+            b: row.b,
+            w: row.w,
+            imm: row.imm,
+        });
+        let targets = tables.targets.iter().map(|row| TargetRow {
+            index: row.index,
+            kind: row.kind,
+            claim: row.claim.map(<[u32; 2]>::from),
+        });
+        Tables {
+            layout: Layout { base, size, guard },
+            instructions: instructions.collect(),
+            targets: targets.collect(),
+        }
+    }
+}
+
+#[inline]
+pub fn write(tables: &Tables, buffer: &mut [u8]) -> Written {
+    let Tables {
+        layout,
+        instructions,
+        targets,
+    } = tables;
+    handwritten::write(*layout, instructions, targets, buffer).map_err(refused)
 }
 
 #[inline]

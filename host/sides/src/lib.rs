@@ -3,9 +3,11 @@
 
 mod hand_written;
 mod proved;
+mod tables;
 
 pub use hand_written::{sweeps, verify_by_earlier_rule_n};
 pub use handwritten::Sweeps;
+pub use tables::Tables;
 
 /// Number and place of a refusal.
 pub type Refused = (u32, u32);
@@ -18,6 +20,9 @@ pub type Verdict = Result<[u32; 2], Refused>;
 
 /// The ending's number, and the steps.
 pub type Ran = Result<(u32, u32), Refused>;
+
+/// The file's length.
+pub type Written = Result<u32, Refused>;
 
 /// The endings' numbers, those of the C interface.
 pub mod ending {
@@ -79,6 +84,15 @@ impl Side {
         match self {
             Side::Proved => proved::work_out(file),
             Side::HandWritten => hand_written::work_out(file),
+        }
+    }
+
+    /// Writes the file that has these tables into the beginning of the buffer.
+    #[inline]
+    pub fn write(self, tables: &Tables, buffer: &mut [u8]) -> Written {
+        match self {
+            Side::Proved => proved::write(&tables.proved, buffer),
+            Side::HandWritten => hand_written::write(&tables.hand_written, buffer),
         }
     }
 

@@ -1,7 +1,8 @@
 //! The proved library, through its wrapper.
 
-use crate::{Machine, Ran, Read, Refused, Verdict};
-use madsjirn::{Layout, Refusal, Run, Verified};
+use crate::{Machine, Ran, Read, Refused, Verdict, Written};
+use madsjirn::{Instruction, Layout, Range, Refusal, Run, Target, Verified};
+use modules::{encode, tables};
 
 fn refused(refusal: Refusal) -> Refused {
     (refusal.rule.number(), refusal.place)
@@ -22,6 +23,48 @@ pub fn verify(file: &[u8]) -> Verdict {
 #[inline]
 pub fn work_out(file: &mut [u8]) -> Verdict {
     verdict(madsjirn::work_out(file))
+}
+
+/// Tables as the wrapper takes them.
+pub struct Tables {
+    layout: Layout,
+    instructions: Vec<Instruction>,
+    targets: Vec<Target>,
+}
+
+impl Tables {
+    pub fn new(tables: &tables::Tables) -> Tables {
+        let encode::Layout { base, size, guard } = tables.layout;
+        let instructions = tables.instructions.iter();
+        let instructions = instructions.map(|row| Instruction {
+            op: row.op,
+            a: row.a,
+            b: row.b,
+            w: row.w,
+            imm: row.imm,
+        });
+        let targets = tables.targets.iter().map(|row| Target {
+            index: row.index,
+            kind: row.kind,
+            claim: row.claim.map(|(lowest, highest)| Range { lowest, highest }),
+        });
+        Tables {
+            layout: Layout { base, size, guard },
+            instructions: instructions.collect(),
+            targets: targets.collect(),
+        }
+    }
+}
+
+#[inline]
+pub fn write(tables: &Tables, buffer: &mut [u8]) -> Written {
+    let Tables {
+        layout,
+        instructions,
+        targets,
+    } = tables;
+    let written = madsjirn::write(*layout, instructions, targets, buffer);
+    Ok(written.map_err(refused)? as u32)
 }
 
 #[inline]

@@ -1,16 +1,18 @@
 //! Generated files: accepted ones, ones that break a rule by a hair, damaged ones, ones whose verdict depends on
-//! document 02, and ones whose claims are to be worked out.
+//! document 02, and ones whose claims are to be worked out. And faults of tables that are to be written.
 
 mod access;
 mod body;
 mod claims;
 mod damage;
+mod faults;
 mod growing;
 mod near;
 mod shape;
 mod turned;
 mod valid;
 
+pub use faults::{faults, with_faults, Fault, Part};
 pub use growing::garbled_claim;
 
 use crate::encode::Module;

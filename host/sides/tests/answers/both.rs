@@ -1,6 +1,7 @@
 //! The common answer of both sides, and a verdict as a line.
 
-use sides::{Machine, Ran, Read, Side, Verdict};
+use modules::tables;
+use sides::{Machine, Ran, Read, Side, Tables, Verdict, Written};
 use std::fmt::Debug;
 
 fn common<T: PartialEq + Debug>(answers: [T; 2]) -> T {
@@ -32,6 +33,20 @@ pub fn work_out(file: &mut [u8]) -> Verdict {
         let again = Side::BOTH.map(|side| side.work_out(&mut copied));
         assert!(common(again) == answer && file == copied);
     }
+    answer
+}
+
+/// Writes tables on both sides, the first time into a copy. A refusal leaves every byte as it was, and a file those
+/// past it.
+pub fn write(tables: &tables::Tables, buffer: &mut [u8]) -> Written {
+    let tables = Tables::new(tables);
+    let (before, mut copied) = (buffer.to_vec(), buffer.to_vec());
+    let handwritten = Side::HandWritten.write(&tables, &mut copied);
+    let proved = Side::Proved.write(&tables, buffer);
+    assert!(buffer == copied, "the bytes differ");
+    let answer = common([proved, handwritten]);
+    let end = answer.map_or(0, |length| length as usize);
+    assert!(buffer[end..] == before[end..], "other bytes changed");
     answer
 }
 

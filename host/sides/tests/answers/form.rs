@@ -97,7 +97,7 @@ fn layouts() {
 
 /// What an opcode's row of document 01's table says, and for a load document 02's ticket 2: the highest a and b, the
 /// values of w, and whether imm is used.
-fn row(opcode: u8) -> (u8, u8, Vec<u8>, bool) {
+pub fn row(opcode: u8) -> (u8, u8, Vec<u8>, bool) {
     match opcode {
         op::HALT => (0, 0, vec![0], false),
         op::SET | op::ADDI | op::ANDI => (7, 0, vec![0], true),
