@@ -2,3 +2,4 @@ pub mod Parts
 pub mod Runs
 pub mod Verdicts
 pub mod Works
+pub mod Writes

@@ -79,7 +79,7 @@ fn field(file: &[u8], at: usize, tag: u32) -> Piece
     Piece { number: 0, length }
 }
 
-fn sound(base: u32, size: u32, guard: u32) -> bool {
+pub(crate) fn sound(base: u32, size: u32, guard: u32) -> bool {
     if size < 256 {
         return false;
     }

@@ -4,23 +4,29 @@ ghost use lib.ListN.{length};
 ghost use Rattle.reference.specs.Runs.{RunSaid};
 ghost use Rattle.reference.specs.Verdicts.{RefusedAs, VerifySaid};
 ghost use Rattle.reference.specs.Works.{WorkSaid};
+ghost use Rattle.reference.specs.Writes.{UnwrittenAs, WriteSaid};
 
 mod field;
+mod fill;
 mod know;
 mod load;
 mod machine;
 mod read;
 mod rules;
 mod sweep;
+mod tables;
 mod widen;
 
 use field::shape_of;
+use fill::file_length;
+use fill::fill;
 use load::load;
 use machine::start;
 use machine::unrun;
 use read::low;
 use rules::judge_all;
 use sweep::judge_worked_out;
+use tables::judge_tables;
 use widen::write_claims;
 
 pub struct Judged {
@@ -36,6 +42,13 @@ pub struct Ran {
     pub code: u32,
     pub at: u32,
     pub steps: u32,
+}
+
+// The file's length; or a refusal's number and place.
+pub struct Written {
+    pub refused: bool,
+    pub first: u32,
+    pub second: u32,
 }
 
 fn refused(number: u32, place: usize) -> Judged
@@ -139,4 +152,44 @@ pub fn run(
         offset,
         budget,
     )
+}
+
+fn unwritten(number: u32, place: usize) -> Written
+    ensures { λ r. ⌜ UnwrittenAs number place r ⌝ }
+{
+    Written {
+        refused: true,
+        first: number,
+        second: low(place),
+    }
+}
+
+// Writes the module file of tables: ticket 5 of document 02. A row of instructions is op, a, b, w and imm; a row of doors
+// is index, kind, and lowest and highest of r0 to r7 in turn. A refusal, by 3, 5, 6, 7 or 16, leaves the buffer as it was.
+// The contract does not settle which answer it is, nor which bytes are written: that both are right is tested by
+// comparison.
+pub fn write(
+    base: u32,
+    size: u32,
+    guard: u32,
+    instructions: &[[u32; 5]],
+    doors: &[[u32; 18]],
+    buffer: &mut [u8],
+) -> Written
+    ensures { λ r. ⌜ WriteSaid (length (now (instructions .entry))) (length (now (doors .entry))) (now (buffer .entry)) (now (buffer .exit)) r ⌝ }
+{
+    let found = judge_tables(base, size, guard, instructions, doors);
+    if found.number != 0 {
+        return unwritten(found.number, found.place);
+    }
+    let length = file_length(instructions.len(), doors.len());
+    if buffer.len() < length {
+        return unwritten(16, 0);
+    }
+    fill(base, size, guard, instructions, doors, buffer, length);
+    Written {
+        refused: false,
+        first: low(length),
+        second: 0,
+    }
 }

@@ -60,7 +60,7 @@ fn width_listed(op: usize, w: u32) -> bool {
     }
 }
 
-fn readable(x: Ins) -> bool {
+pub(crate) fn readable(x: Ins) -> bool {
     let op = wide(x.op);
     if 15 < op {
         return false;

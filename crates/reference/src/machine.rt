@@ -30,7 +30,7 @@ fn write(regs: &mut [u32; 8], r: u32, v: u32) {
     regs[wide(r) % 8] = v;
 }
 
-fn poke(region: &mut [u8], i: usize, v: u32) {
+pub(crate) fn poke(region: &mut [u8], i: usize, v: u32) {
     if i < region.len() {
         region[i] = (v % 256) as u8;
     }

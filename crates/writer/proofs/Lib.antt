@@ -2,3 +2,4 @@ pub mod Storing
 pub mod Claiming
 pub mod Filing
 pub mod Answering
+pub mod Handing

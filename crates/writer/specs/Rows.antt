@@ -1,5 +1,5 @@
 -- The rows that are handed over, lists of numbers, in the model's terms. Assumes nothing.
-use Prim.Native.Nat.{ℕ, _+_, _*_}
+use Prim.Native.Nat.{ℕ, _+_, _*_, _<_}
 use mathlib.Core.List.{List, [], map}
 use mathlib.Core.Option.{Option}
 use lib.ListN.{getD}
@@ -7,7 +7,9 @@ use Rattle.model.specs.declared.Instruction.{Instruction}
 use Rattle.model.specs.declared.Layout.{Layout}
 use Rattle.model.specs.declared.Ranges.{Ranges}
 use Rattle.model.specs.File.{InstructionRow, decoded, tabulate, TargetRow}
+use Rattle.model.specs.Words.{modulus}
 use Rattle.model.specs.Writer.{instructionRow, targetRow, Tables}
+use Rattle.model.specs.Promises.{AreTables}
 
 -- op, a, b, w, imm
 abbrev pub rowOf : List ℕ → InstructionRow
@@ -29,3 +31,11 @@ decodedAt instructions i = decoded (rowOf (getD instructions i []))
 
 abbrev pub targetsAt : List (List ℕ) → ℕ → TargetRow
 targetsAt targets j = targetRowOf (getD targets j [])
+
+-- what is handed over are rows of words, so they are tables that `FilesWritten` speaks of
+abbrev pub OfWords : List (List ℕ) → Type 0
+OfWords rows = (i p : ℕ) → getD (getD rows i []) p 0 < modulus
+
+pub record HandedOver : Type 0 where
+  pub tables : (l : Layout) (instructions targets : List (List ℕ)) → OfWords instructions → OfWords targets
+      → AreTables (tablesOf l instructions targets)

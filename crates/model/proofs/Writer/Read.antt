@@ -94,7 +94,7 @@ module _ (file : List ℕ) where
 
 -- ---- what a host can hand over
 
-eight-words : (f : ℕ → ℕ) → ((r : ℕ) → f r < modulus) → EightWords (tabulate 0 8 f)
+pub eight-words : (f : ℕ → ℕ) → ((r : ℕ) → f r < modulus) → EightWords (tabulate 0 8 f)
 eight-words f small = record { eight = length-tabulate 0 8 f; small = tabulate-everywhere (λ x. x < modulus) f 0 small (omega arith) 0 8 }
 
 pub tables-words : (file : List ℕ) → AreBytes file → TablesKept (tablesIn file) → AreTables (tablesIn file)
