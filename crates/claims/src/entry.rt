@@ -9,7 +9,7 @@ use ranges::{covers, knowledge};
 
 // Whether it is reached, and then its claim; and of each register in how many earlier sweeps it has grown, and whether it has in this
 // one.
-#[derive(Drop)]
+#[derive(Clone, Copy)]
 pub(crate) struct Row {
     pub reached: bool,
     pub claim: Ranges,

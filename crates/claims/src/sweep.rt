@@ -73,7 +73,7 @@ fn arrive(
 }
 
 // What is known behind an instruction, if it goes on, and whether anything is changed by then.
-#[derive(Drop)]
+#[derive(Clone, Copy)]
 struct Passed {
     pub changed: bool,
     pub onward: bool,

@@ -1,6 +1,8 @@
 // The gate program: the bytes of a module on standard input, one line on standard output: `accepted`, instructions, targets, or
 // `refused`, number, place. Of longer input than the longest module, 50,197 bytes, the first 65,536 bytes decide: what they come to
 // is what the whole comes to (`LongFiles`, in the model's promises).
+#![tactic(auto)]
+
 ghost use Rattle.model.specs.Judgement.{judgement};
 ghost use Rattle.model.specs.Line.{LinePost};
 

@@ -1,4 +1,6 @@
 // The line that the gate program prints, written into a buffer: `accepted`, instructions, targets, or `refused`, number, place.
+#![tactic(auto)]
+
 ghost use Rattle.std.specs.Prelude.{◌≡◌, [], ◌∷◌, ◌+◌, ◌≤◌, ◌<◌, length};
 ghost use Rattle.model.specs.Answers.{judgement_of};
 ghost use Rattle.model.specs.Line.{digit, decimal, line_with, LinePost};

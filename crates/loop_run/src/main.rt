@@ -1,6 +1,8 @@
 // Runs the module on standard input on the proved machine: from index 0 with all registers 0, on a region of zeros that begins inside
 // a memory of 65,536 bytes, with a budget of 100,000 steps. Prints how the run ended, its steps, the pc, and r1 in hexadecimal.
 // Its input here is document 01's loop.
+#![tactic(auto)]
+
 use libc::{STDIN_FILENO, STDOUT_FILENO};
 use model::{Completion, Ending, Machine, Steps};
 

@@ -12,7 +12,7 @@ use words::arithmetic::difference;
 // ---- where they lie, by distances that wrap: no number has more than 32 bits (document 02, ticket 4)
 
 // All bytes in the region, at an offset of it; or all in region and guard zones; or not.
-#[derive(Drop)]
+#[derive(Clone, Copy)]
 pub(crate) enum Reach {
     Inside { offset: u32 },
     Guarded,

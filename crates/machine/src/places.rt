@@ -10,7 +10,7 @@ use model::Ending;
 use reader::lookup::Lookup;
 use reader::{lookup, target};
 
-#[derive(Drop)]
+#[derive(Clone, Copy)]
 pub(crate) enum Next {
     To { pc: usize },
     Ends { ending: Ending },

@@ -12,7 +12,7 @@ use writer::write::Written;
 
 // Of a module that is read: its layout, and how many instructions and targets it has.
 #[repr(C)]
-#[derive(Drop)]
+#[derive(Clone, Copy)]
 pub struct ModuleAnswer {
     pub refusal: u32,
     pub place: u32,
@@ -25,7 +25,7 @@ pub struct ModuleAnswer {
 
 // Of a module that is verified: how many instructions and targets it has.
 #[repr(C)]
-#[derive(Drop)]
+#[derive(Clone, Copy)]
 pub struct VerdictAnswer {
     pub refusal: u32,
     pub place: u32,
@@ -36,7 +36,7 @@ pub struct VerdictAnswer {
 // Of a run: how it ended, 0 to 4 (halted, trapped, denied, violated, out of budget) or 5 where it was refused, and how many steps
 // were made.
 #[repr(C)]
-#[derive(Drop)]
+#[derive(Clone, Copy)]
 pub struct RunAnswer {
     pub refusal: u32,
     pub place: u32,
@@ -46,7 +46,7 @@ pub struct RunAnswer {
 
 // Of tables that are written: how many bytes the file has.
 #[repr(C)]
-#[derive(Drop)]
+#[derive(Clone, Copy)]
 pub struct WriteAnswer {
     pub refusal: u32,
     pub place: u32,

@@ -7,7 +7,7 @@ use crate::answers::RunAnswer;
 use model::{Machine, Steps};
 
 // The host's answer with the machine afterwards.
-#[derive(Drop)]
+#[derive(Clone, Copy)]
 pub(crate) struct HostOutcome {
     pub machine: Machine,
     pub answer: RunAnswer,

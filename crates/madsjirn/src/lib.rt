@@ -1,5 +1,7 @@
 // The gatekeeper as a static library, for hosts in C and Rust: read, verify, work out claims, run and step on any bytes, and write, with
 // answers of plain numbers. A slice is a pointer and a length. Nothing is asked of a host beforehand but that its references are valid.
+#![tactic(auto)]
+
 pub mod answers;
 mod hosted;
 

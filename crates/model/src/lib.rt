@@ -1,11 +1,12 @@
 // The types that the gatekeeper's crates share. What they mean is defined in specs/, beside the sentences of document 01.
+#![tactic(auto)]
 
 ghost use Rattle.std.specs.Prelude.{◌≡◌};
 ghost use Rattle.model.specs.Answers.{rule_number, ending_number};
 ghost use Rattle.model.specs.Instructions.{width_read};
 
 // How many bytes a load or store moves.
-#[derive(Drop)]
+#[derive(Clone, Copy)]
 pub enum Width {
     One,
     Two,
@@ -13,7 +14,7 @@ pub enum Width {
 }
 
 // What a load reads and carries up: some bytes with zeros above them, or one or two with their sign.
-#[derive(Drop)]
+#[derive(Clone, Copy)]
 pub enum LoadWidth {
     Unsigned { width: Width },
     SignedOne,
@@ -32,7 +33,7 @@ pub fn width_read(width: LoadWidth) -> Width
 }
 
 // What a branch tests of its registers a and b: a = b, a < b unsigned, a < b signed.
-#[derive(Drop)]
+#[derive(Clone, Copy)]
 pub enum Test {
     Equal,
     Below,
@@ -41,7 +42,7 @@ pub enum Test {
 
 // A decoded instruction: one of sixteen kinds, in the order of their opcodes, each with its own operands only.
 // a and b are registers, imm is the operand of that name, to is the index that a jump or branch goes to.
-#[derive(Drop)]
+#[derive(Clone, Copy)]
 pub enum Instruction {
     Halt,
     Set {
@@ -109,7 +110,7 @@ pub enum Instruction {
 }
 
 // Where the region lies in the module's addresses, and how many guard bytes stand below and above it.
-#[derive(Drop)]
+#[derive(Clone, Copy)]
 pub struct Layout {
     pub base: u32,
     pub size: u32,
@@ -117,21 +118,21 @@ pub struct Layout {
 }
 
 // The values that one register may hold: from low to high, both included.
-#[derive(Drop)]
+#[derive(Clone, Copy)]
 pub struct Range {
     pub low: u32,
     pub high: u32,
 }
 
 // The ranges of two registers, cut together.
-#[derive(Drop)]
+#[derive(Clone, Copy)]
 pub struct Pair {
     pub first: Range,
     pub second: Range,
 }
 
 // A range for each of the eight registers: the verifier's knowledge, or a target's claim.
-#[derive(Drop)]
+#[derive(Clone, Copy)]
 pub struct Ranges {
     pub lows: [u32; 8],
     pub highs: [u32; 8],
@@ -139,7 +140,7 @@ pub struct Ranges {
 
 // A jump target (document 01: a door). An indirect one (open) may be jumped to through a register, a direct one (inner)
 // only by a jump or branch that names it. The claim is what the registers hold on arrival.
-#[derive(Drop)]
+#[derive(Clone, Copy)]
 pub struct Target {
     pub index: u16,
     pub indirect: bool,
@@ -149,14 +150,14 @@ pub struct Target {
 // The state that a run changes (the machine record); pc is the index of the next instruction (its place). Hosts in other
 // languages lend it too, so its layout is C's.
 #[repr(C)]
-#[derive(Drop)]
+#[derive(Clone, Copy)]
 pub struct Machine {
     pub registers: [u32; 8],
     pub pc: u16,
 }
 
 // How a run ends: halted, trapped, turned away, strayed, spent.
-#[derive(Drop)]
+#[derive(Clone, Copy)]
 pub enum Ending {
     Halted,
     Trapped,
@@ -166,6 +167,7 @@ pub enum Ending {
 }
 
 // The number of an ending.
+#[tactic(auto, unfolding(crate::specs::Answers::ending_number))]
 pub fn ending_number(ending: Ending) -> u32
     ensures { result ≡ ending_number ending }
 {
@@ -179,7 +181,7 @@ pub fn ending_number(ending: Ending) -> u32
 }
 
 // What a refusal is for, in the order of the numbers: 1 to 15 are document 01's, 16 is document 02's.
-#[derive(Drop)]
+#[derive(Clone, Copy)]
 pub enum Rule {
     Truncated,
     WrongTag,
@@ -200,6 +202,7 @@ pub enum Rule {
 }
 
 // The number of a rule.
+#[tactic(auto, unfolding(crate::specs::Answers::rule_number))]
 pub fn rule_number(rule: Rule) -> u32
     ensures { result ≡ rule_number rule }
 {
@@ -224,21 +227,21 @@ pub fn rule_number(rule: Rule) -> u32
 }
 
 // A refusal: the rule, and the offset or index where it is broken.
-#[derive(Drop)]
+#[derive(Clone, Copy)]
 pub struct Refusal {
     pub rule: Rule,
     pub place: u32,
 }
 
 // The verifier's answer: accepted, with the counts of instructions and targets, or the first refusal.
-#[derive(Drop)]
+#[derive(Clone, Copy)]
 pub enum Verdict {
     Accepted { instructions: u32, targets: u32 },
     Refused { refusal: Refusal },
 }
 
 // What came of a call to run: it ended, or it was refused.
-#[derive(Drop)]
+#[derive(Clone, Copy)]
 pub enum Completion {
     Ended { ending: Ending },
     Refused { refusal: Refusal },
@@ -248,14 +251,14 @@ pub enum Completion {
 pub type Steps = u32;
 
 // The answer to a call to run: what came of it, and how many steps were made.
-#[derive(Drop)]
+#[derive(Clone, Copy)]
 pub struct Answer {
     pub completion: Completion,
     pub steps: Steps,
 }
 
 // The same with the machine afterwards, for a call that takes and returns the machine by value.
-#[derive(Drop)]
+#[derive(Clone, Copy)]
 pub struct Outcome {
     pub machine: Machine,
     pub answer: Answer,

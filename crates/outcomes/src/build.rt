@@ -33,7 +33,7 @@ pub const JUMPR: u32 = 15;
 
 pub const MOST: u32 = 4294967295;
 
-#[derive(Drop)]
+#[derive(Clone, Copy)]
 pub struct Ins {
     pub op: u32,
     pub a: u32,

@@ -14,7 +14,7 @@ pub const DL: u32 = 536871167;
 const LENGTH: usize = 257;
 
 // What is known of r1 and r2.
-#[derive(Drop)]
+#[derive(Clone, Copy)]
 struct Known {
     low1: u32,
     high1: u32,

@@ -1,5 +1,7 @@
 // Runs the known outcomes of documents 01 and 02 and 3,000 generated modules on two implementations, and compares their
 // answers. Claims are worked out for each of these modules, and for as many generated loops.
+#![tactic(auto)]
+
 mod build;
 mod case;
 mod code;

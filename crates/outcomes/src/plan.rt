@@ -39,7 +39,7 @@ const GAPS: [u32; 8] = [1, 2, 2, 3, 3, 3, 4, 4];
 
 // The doors rise; those from k on are not written. Door j is open where bit j of `open` is 1. Where `tight`, an inner
 // door claims the region and `slack` bytes above it for r7, and 0 to half the guard for r6; else it claims anything.
-#[derive(Drop)]
+#[derive(Clone, Copy)]
 pub struct Plan {
     pub base: u32,
     pub size: u32,

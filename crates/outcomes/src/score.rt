@@ -57,7 +57,7 @@ pub(crate) fn asked(score: &mut [u32; 4], file: &[u8], number: u32, place: u32, 
 }
 
 // What is to be after a step: how it ends, the place, r0, r1 and r2, and a word of memory with its place.
-#[derive(Drop)]
+#[derive(Clone, Copy)]
 pub struct After {
     pub code: u32,
     pub place: u32,

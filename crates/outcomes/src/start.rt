@@ -4,7 +4,7 @@ use super::plan::{Plan, some_door};
 use super::random::{below, next, one_in};
 use std::num::{wrapping_add_u32, wrapping_sub_u32};
 
-#[derive(Drop)]
+#[derive(Clone, Copy)]
 pub struct Start {
     pub registers: [u32; 8],
     pub place: u16,

@@ -12,7 +12,7 @@ ghost use Rattle.reader.specs.Decoding.{instruction_of, Fetches};
 use model::{Instruction, LoadWidth, Test, Width};
 
 // The instruction, or that the bytes are none.
-#[derive(Drop)]
+#[derive(Clone, Copy)]
 pub enum Decoded {
     Is { instruction: Instruction },
     Not,
@@ -310,7 +310,7 @@ fn assemble(op: u8, first: u8, second: u8, w: u8, imm: u32) -> Instruction
 }
 
 // The bytes of an instruction, and its immediate as a number.
-#[derive(Drop)]
+#[derive(Clone, Copy)]
 struct Encoding {
     op: u8,
     a: u8,

@@ -12,7 +12,7 @@ use crate::target::TARGET;
 use model::{Refusal, Rule};
 
 // Where the value of a field lies, or the refusal.
-#[derive(Drop)]
+#[derive(Clone, Copy)]
 enum Field {
     Value { start: usize, end: usize },
     Refused { refusal: Refusal },

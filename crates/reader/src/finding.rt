@@ -7,7 +7,7 @@ ghost use Rattle.reader.specs.Findings.{fault_in};
 
 use model::{Refusal, Rule};
 
-#[derive(Drop)]
+#[derive(Clone, Copy)]
 pub enum Finding {
     Met,
     Unmet { refusal: Refusal },

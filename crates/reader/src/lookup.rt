@@ -4,7 +4,7 @@ ghost use Rattle.reader.specs.Lookups.{Finds};
 use crate::target;
 
 // The number of a target, counted from 0, or that there is none.
-#[derive(Drop)]
+#[derive(Clone, Copy)]
 pub enum Lookup {
     At { number: u32 },
     Nowhere,

@@ -24,14 +24,14 @@ pub const LAYOUT_AT: u32 = 0;
 pub const CODE_AT: u32 = 15;
 
 // What a readable module holds: its layout, and how many instructions and targets.
-#[derive(Drop)]
+#[derive(Clone, Copy)]
 pub struct Reading {
     pub layout: Layout,
     pub instructions: u32,
     pub targets: u32,
 }
 
-#[derive(Drop)]
+#[derive(Clone, Copy)]
 pub enum Parsed {
     Module { reading: Reading },
     Refused { refusal: Refusal },

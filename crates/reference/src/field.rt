@@ -4,7 +4,7 @@ ghost use Rattle.reference.specs.Parts.{FieldSaid, LaidSaid, Listed, ShapeSaid};
 
 use super::read::{byte, wide, word};
 
-#[derive(Drop)]
+#[derive(Clone, Copy)]
 pub(crate) struct Layout {
     pub(crate) base: u32,
     pub(crate) size: u32,
@@ -12,7 +12,7 @@ pub(crate) struct Layout {
 }
 
 // The refusal's number and place, the number 0 where there is none; then instructions, doors and layout.
-#[derive(Drop)]
+#[derive(Clone, Copy)]
 pub(crate) struct Shape {
     pub(crate) number: u32,
     pub(crate) place: usize,
@@ -22,7 +22,7 @@ pub(crate) struct Shape {
 }
 
 // A field's refusal, 0 where there is none, and the length of its value.
-#[derive(Drop)]
+#[derive(Clone, Copy)]
 struct Piece {
     number: u32,
     length: usize,

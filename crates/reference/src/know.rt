@@ -5,14 +5,14 @@ ghost use Rattle.std.specs.Prelude.{◌<◌};
 use super::field::Layout;
 use super::read::{Ins, bytes, low, wide};
 
-#[derive(Drop)]
+#[derive(Clone, Copy)]
 pub(crate) struct Span {
     pub(crate) lo: u32,
     pub(crate) hi: u32,
 }
 
 // Register b gets y, and then register a gets x; a register of 8 is none.
-#[derive(Drop)]
+#[derive(Clone, Copy)]
 pub(crate) struct Change {
     pub(crate) a: u32,
     pub(crate) x: Span,

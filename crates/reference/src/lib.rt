@@ -1,5 +1,7 @@
 // The rules of the scope document by tables: a module file is laid out in flat arrays, which are then
 // gone through by index. What lies past an array's end reads as 0, so no reader asks for a bound.
+#![tactic(auto)]
+
 ghost use Rattle.std.specs.Prelude.{length};
 ghost use Rattle.reference.specs.Runs.{RunSaid};
 ghost use Rattle.reference.specs.Verdicts.{RefusedAs, VerifySaid};
@@ -27,14 +29,14 @@ use sweep::judge_worked_out;
 use tables::judge_tables;
 use widen::write_claims;
 
-#[derive(Drop)]
+#[derive(Clone, Copy)]
 pub struct Judged {
     pub accepted: bool,
     pub first: u32,
     pub second: u32,
 }
 
-#[derive(Drop)]
+#[derive(Clone, Copy)]
 pub struct Ran {
     pub registers: [u32; 8],
     pub place: u16,
@@ -45,7 +47,7 @@ pub struct Ran {
 }
 
 // The file's length; or a refusal's number and place.
-#[derive(Drop)]
+#[derive(Clone, Copy)]
 pub struct Written {
     pub refused: bool,
     pub first: u32,

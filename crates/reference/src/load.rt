@@ -6,7 +6,7 @@ ghost use Rattle.reference.specs.Parts.{LoadSaid};
 use super::read::{DOOR, Ins, KIND, byte, enter, fetch, half, lay, low, wide, word};
 
 // A refusal's number and place, the number 0 where there is none.
-#[derive(Drop)]
+#[derive(Clone, Copy)]
 pub(crate) struct Found {
     pub(crate) number: u32,
     pub(crate) place: usize,

@@ -9,7 +9,7 @@ use super::read::{Ins, KIND, byte, bytes, fetch, half, low, plane, wide, word};
 
 const ON: u32 = 5;
 
-#[derive(Drop)]
+#[derive(Clone, Copy)]
 struct Out {
     ending: u32,
     place: usize,

@@ -7,7 +7,7 @@ pub(crate) const KIND: usize = 5;
 pub(crate) const DOOR: usize = 6;
 
 // A decoded instruction, its unused operands zero.
-#[derive(Drop)]
+#[derive(Clone, Copy)]
 pub(crate) struct Ins {
     pub(crate) op: u32,
     pub(crate) a: u32,

@@ -17,7 +17,7 @@ use reader::read::CODE_AT;
 use reader::target::TARGET;
 
 // The file's length, or the first of refusals 3, 5, 6, 7 and 16.
-#[derive(Drop)]
+#[derive(Clone, Copy)]
 pub enum Written {
     Length { length: u32 },
     Refused { refusal: Refusal },

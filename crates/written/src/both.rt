@@ -7,7 +7,7 @@ use model::Layout;
 use reference::Written;
 
 // The two answers, and whether the bytes are the same and as they should be.
-#[derive(Drop)]
+#[derive(Clone, Copy)]
 pub struct Both {
     pub ours: Written,
     pub theirs: Written,

@@ -93,7 +93,7 @@ const DOORS: [[u32; 9]; 13] = [
 ];
 
 // One of a row's changes: the row of the table, the number in it, and its new value.
-#[derive(Drop)]
+#[derive(Clone, Copy)]
 struct Change(u32, u32, u32);
 
 fn change_of(row: [u32; 9], i: usize) -> Change {

@@ -4,7 +4,7 @@ use super::rows::{DOOR, MOST, door_number, wide};
 use model::Layout;
 
 // The layout, and how many of the tables' rows are handed over.
-#[derive(Drop)]
+#[derive(Clone, Copy)]
 pub struct Plan {
     pub layout: Layout,
     pub n: u32,

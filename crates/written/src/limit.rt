@@ -8,7 +8,7 @@ use super::score::note;
 
 // How many instructions and doors, and the bytes of the buffer; the size, the opcode of instruction 1 and the kind of door
 // 1, which are right where they are 4,096, 0 and 0; and the refusal's number and place, or 0 and the file's length.
-#[derive(Drop)]
+#[derive(Clone, Copy)]
 pub struct Row(u32, u32, u32, u32, u32, u32, u32, u32);
 
 const COUNTS: [Row; 23] = [

@@ -1,6 +1,8 @@
 // Writes tables with known answers and generated ones with two writers, and compares what they answer and every byte of
 // their buffers. The reader must give back layout, counts and instructions of what is written, and all other bytes must
 // stay as they were.
+#![tactic(auto)]
+
 mod back;
 mod bend;
 mod both;
