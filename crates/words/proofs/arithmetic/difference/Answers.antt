@@ -4,4 +4,4 @@ use Rattle.words.proofs.arithmetic.difference.Goals as goal
 
 pub returns : goal.returns
 returns c = let fits = c.ranges in
-    difference_wraps _ _ _ fits.x.fits fits.y.fits c.wrapping_sub_u32.type-inv c.wrapping_sub_u32.ensures.value
+    difference_wraps _ _ _ fits.x.fits fits.y.fits c.wrapping_sub_u32.type_inv c.wrapping_sub_u32.ensures.value
