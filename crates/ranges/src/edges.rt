@@ -45,6 +45,7 @@ fn rule_n(region: Range, b: u8, width: Width, imm: i32, known: Ranges) -> Ranges
 }
 
 // Along the edge to the next index.
+#[tactic(auto, unfolding(model::specs::Instructions::shape, model::specs::Instructions::after_next))]
 pub fn after_next(region: Range, instruction: Instruction, known: Ranges) -> Ranges
     ensures { result ≡ after_next region (shape instruction) known }
 {
@@ -89,6 +90,7 @@ pub fn after_next(region: Range, instruction: Instruction, known: Ranges) -> Ran
 }
 
 // Along the edge that a jump or a taken branch takes.
+#[tactic(auto, unfolding(model::specs::Instructions::shape, model::specs::Instructions::after_taken))]
 pub fn after_taken(instruction: Instruction, known: Ranges) -> Ranges
     ensures { result ≡ after_taken (shape instruction) known }
 {
