@@ -1,6 +1,6 @@
 -- The arms of `execute`: what each leaves is the model's step of its instruction, by the table's shape for it and the laws of
 -- settling. Assumes nothing.
-use Rattle.core.specs.Prelude.{◌≡◌, ℕ, ◌<◌, true, false, List, [], ℤ, pos, ◌+ℤ◌}
+use Rattle.std.specs.Prelude.{◌≡◌, ℕ, ◌<◌, true, false, List, [], ℤ, pos, ◌+ℤ◌}
 use mathlib.Core.Path.{◌∙◌}
 use lib.Signed.{mag}
 use mir.Syntax.{w32}

@@ -1,5 +1,5 @@
 -- Where a step goes: to the next index, or to a target that the search found, by the tests of the definitions. Assumes nothing.
-use Rattle.core.specs.Prelude.{◌≡◌, ℕ, ◌+◌, ◌<◌, ◌≤◌, Bool, List}
+use Rattle.std.specs.Prelude.{◌≡◌, ℕ, ◌+◌, ◌<◌, ◌≤◌, Bool, List}
 use mathlib.Core.Path.{ap}
 use mathlib.Core.Option.{Option}
 use borrow.Author.Tests.{lt-ltb, le-ltb}

@@ -5,5 +5,3 @@ pub mod Readiness
 pub mod Arms
 pub mod Looping
 pub mod Calling
-pub mod Lending
-pub mod Outcomes

@@ -1,6 +1,6 @@
 -- What the model makes of an effect is what the core answers and leaves, by the tests that both go by: the next index, and where
 -- an access lies. Assumes nothing.
-use Rattle.core.specs.Prelude.{◌≡◌, ℕ, ◌+◌, ◌-◌, Bool, true, false, cond, ltb, List}
+use Rattle.std.specs.Prelude.{◌≡◌, ℕ, ◌+◌, ◌-◌, Bool, true, false, cond, ltb, List}
 use mathlib.Core.Path.{refl, sym, ◌∙◌}
 use native.Mathlib.Omega.{arith}
 use Rattle.model.specs.declared.Ending.{Ending}

@@ -1,5 +1,5 @@
 -- What the machine's parts answer, in the model's terms. Assumes nothing.
-use Rattle.core.specs.Prelude.{◌≡◌, ℕ, ◌+◌, ◌-◌, ◌<◌, cond, List, length, nat_lt, slice_set}
+use Rattle.std.specs.Prelude.{◌≡◌, ℕ, ◌+◌, ◌-◌, ◌<◌, cond, List, length, nat_lt, slice_set}
 use Rattle.std.proofs.Math.Option.{Option, none, some}
 use Rattle.model.specs.declared.Completion.TheVariants as Completions
 use Rattle.model.specs.declared.Answer.{Answer}

@@ -1,5 +1,5 @@
 // Access: where the bytes of a load or store lie, and moving them.
-ghost use Rattle.core.specs.Prelude.{◌≡◌, ◌+◌, ◌*◌, ◌^◌, ◌<◌, ◌≤◌, length};
+ghost use Rattle.std.specs.Prelude.{◌≡◌, ◌+◌, ◌*◌, ◌^◌, ◌<◌, ◌≤◌, length};
 ghost use Rattle.model.specs.Words.{read_bytes, write_bytes};
 ghost use Rattle.model.specs.Instructions.{bytes_of, width_read, carried};
 ghost use Rattle.model.specs.Step.{in_region, in_zones};

@@ -3,9 +3,9 @@
 #![tactic(auto)]
 
 mod access;
-mod core;
 pub mod lent;
 mod operations;
 mod places;
 mod registers;
+mod stepping;
 pub mod value;

@@ -1,5 +1,5 @@
 // Operations: what an instruction does once its operands are read. Where there is no next index nothing is changed.
-ghost use Rattle.core.specs.Prelude.{◌≡◌, ◌<◌, length};
+ghost use Rattle.std.specs.Prelude.{◌≡◌, ◌<◌, length};
 ghost use Rattle.model.specs.Instructions.{holds, guarded};
 ghost use Rattle.model.specs.Rules.{LayoutKept};
 ghost use Rattle.machine.specs.Core.{AssignPost, LoadPost, StorePost};

@@ -1,5 +1,5 @@
 // Places: where a step goes, or how it ends the run.
-ghost use Rattle.core.specs.Prelude.{◌≡◌, ◌<◌, if◌then◌else◌};
+ghost use Rattle.std.specs.Prelude.{◌≡◌, ◌<◌, if◌then◌else◌};
 ghost use Rattle.model.specs.declared.Ending.TheVariants.{Violated};
 ghost use Rattle.model.specs.Program.{is_target, is_indirect};
 ghost use Rattle.reader.specs.Lookups.{Rising};

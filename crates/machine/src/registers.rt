@@ -1,5 +1,5 @@
 // The eight registers, lent. An operand above 7 names none: it reads as 0, and nothing is stored.
-ghost use Rattle.core.specs.Prelude.{◌≡◌, slice_set};
+ghost use Rattle.std.specs.Prelude.{◌≡◌, slice_set};
 ghost use Rattle.model.specs.Instructions.{reg};
 
 pub(crate) fn get(registers: &[u32; 8], r: u8) -> u32

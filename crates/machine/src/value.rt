@@ -1,11 +1,11 @@
 // Step and run with the machine by value: it goes in, and comes back in the outcome.
-ghost use Rattle.core.specs.Prelude.{◌≡◌, ℕ, List};
+ghost use Rattle.std.specs.Prelude.{◌≡◌, ℕ, List};
 ghost use Rattle.model.specs.Answers.{fault_of};
 ghost use Rattle.model.specs.Run.{RunPost, unchanged};
 ghost use Rattle.reader.specs.Readings as Readings;
 ghost use Rattle.machine.specs.Core.{seen_of};
 
-use crate::core;
+use crate::stepping;
 use model::{Answer, Completion, Machine, Outcome, Refusal, Rule, Steps};
 use reader::read::{Parsed, Reading};
 
@@ -67,7 +67,7 @@ fn run_loaded(
         );
     }
     let end = offset + size;
-    core::run_in(
+    stepping::run_in(
         reader::read::code_in(file),
         reader::read::targets_in(file),
         reading.targets,

@@ -1,0 +1,17 @@
+-- `machine::access::write_four` meets its contract: by the law of writes. Assumes nothing.
+use native.Mathlib.Omega.{arith}
+use lib.ListN.{length-set}
+use Rattle.words.proofs.Writes.{writes}
+use Rattle.machine.proofs.access.write_four.Goals as goal
+
+pub bounds-region-at-2 : goal.bounds-region-at-2
+bounds-region-at-2 c = simp length-set (omega arith)
+
+pub bounds-region-at-3 : goal.bounds-region-at-3
+bounds-region-at-3 c = simp length-set (omega arith)
+
+pub bounds-region-at-4 : goal.bounds-region-at-4
+bounds-region-at-4 c = simp length-set (omega arith)
+
+pub returns : goal.returns
+returns c = writes 3 _ _ _
