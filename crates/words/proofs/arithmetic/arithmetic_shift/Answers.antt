@@ -1,5 +1,4 @@
 -- `words::arithmetic::arithmetic_shift` meets its contract: by `shift_is_arithmetic`, from what the three calls ensure. Assumes nothing.
-use Rattle.std.proofs.Common.{rules}
 use Rattle.words.proofs.Signed.{shift_is_arithmetic}
 use Rattle.words.proofs.arithmetic.arithmetic_shift.Goals as goal
 

@@ -1,5 +1,4 @@
 -- `words::arithmetic::carry_sign` meets its contract: by the laws of a sign that is clear and of one that is carried up. Assumes nothing.
-use Rattle.std.proofs.Common.{rules}
 use Rattle.words.proofs.Signed.{sign_clear, twice_fits, less_twice_fits, sign_carried}
 use Rattle.words.proofs.arithmetic.carry_sign.Goals as goal
 

@@ -1,5 +1,4 @@
 -- `words::arithmetic::logical_shift` meets its contract: below 32 by the machine's shift, and by `shifted_out` from there on. Assumes nothing.
-use Rattle.std.proofs.Common.{rules}
 use Rattle.words.proofs.Wrapping.{shifted_out}
 use Rattle.words.proofs.arithmetic.logical_shift.Goals as goal
 

@@ -1,6 +1,5 @@
 -- `words::arithmetic::to_signed` meets its contract: by the machine's own reading below the sign bit, and by `high_is_signed` from
 -- there on. Assumes nothing.
-use Rattle.std.proofs.Common.{arith}
 use Rattle.words.proofs.Signed.{reading_is_signed, high_fits, high_is_signed}
 use Rattle.words.proofs.arithmetic.to_signed.Goals as goal
 

@@ -1,5 +1,4 @@
 -- `words::bytes::byte_at` meets its contract: by `past_end`, where no byte is read. Assumes nothing.
-use Rattle.std.proofs.Common.{rules}
 use Rattle.words.proofs.LittleEndian.{past_end}
 use Rattle.words.proofs.bytes.byte_at.Goals as goal
 

@@ -1,5 +1,5 @@
 -- `words::bytes::write_u32` meets its contract: by the law of writes, where the four bytes are there. Assumes nothing.
-use Rattle.std.proofs.Common.{◌+◌, length, arith, length-set, rules, le-leb}
+use Rattle.std.proofs.Common.{◌+◌, length, arith, length-set, le-leb}
 use borrow.Author.Tests.{lt-leb}
 use Rattle.words.proofs.Writes.{writes}
 use Rattle.words.proofs.bytes.write_u32.Goals as goal
