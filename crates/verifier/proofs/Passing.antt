@@ -2,7 +2,7 @@
 -- Assumes nothing.
 use Prim.Native.Nat.{ℕ, zero, suc, ◌+◌, ◌-◌, ◌≤◌, ◌<◌}
 use mathlib.Core.Path.{◌≡◌, refl, sym, ap, ◌∙◌}
-use mathlib.Core.Bool.{Bool, true, false, cond, not}
+use mathlib.Core.Bool.{Bool, true, false, cond}
 use mathlib.Core.List.{List}
 use mathlib.Core.Option.{none, some}
 use native.Mathlib.Numerals.{add-one}
@@ -21,7 +21,6 @@ use Rattle.model.specs.Program.{Program, code_at, target_at}
 use Rattle.model.specs.Instructions.{shape, traits, after_next}
 use Rattle.model.specs.File.{claim_in, target_in, program_of}
 use Rattle.model.specs.Judgement.{traits_at, starting_ranges, claim_or, known_at, next_ranges, next_kept, before_next, at_index, verified}
-use Rattle.model.proofs.Tests.{test_fails, test_passes}
 use Rattle.model.proofs.Faults.{index_faultless, index_faulty, indexes_done, indexes_start}
 use Rattle.reader.specs.declared.finding.Finding.{Finding}
 use Rattle.reader.specs.declared.finding.Finding.TheVariants.{Met, Unmet}
@@ -40,22 +39,6 @@ known_is : (p : Program) (i : ℕ) → claim_or (arriving_at p i) (target_at p.t
 unfolding known_at
 known_is p zero = refl
 known_is p (suc i) = refl
-
--- the number of the next target, by whether one stands here
-module _ (marked : Bool) (j : ℕ) {here : Lookup} where
-  pub after_target : {m : ℕ} → here ≡ At m → here ≡ cond marked (At j) Nowhere → j + 1 ≡ cond marked (j + 1) j
-  after_target at is = by_test marked is
-    where
-      by_test : (t : Bool) → here ≡ cond t (At j) Nowhere → j + 1 ≡ cond t (j + 1) j
-      by_test true same = refl
-      by_test false same = absurd (let impossible : ◌≡◌ {A = ℕ} 0 1 = cc in omega arith)
-
-  pub after_none : here ≡ Nowhere → here ≡ cond marked (At j) Nowhere → j ≡ cond marked (j + 1) j
-  after_none nowhere is = by_test marked is
-    where
-      by_test : (t : Bool) → here ≡ cond t (At j) Nowhere → j ≡ cond t (j + 1) j
-      by_test true same = absurd (let impossible : ◌≡◌ {A = ℕ} 0 1 = cc in omega arith)
-      by_test false same = refl
 
 -- before a turn no rule is broken at an index below i, and j is the number of the first target at i or above
 pub record Pass (l : Layout) (code targets : List ℕ) (n k : ℕ) (arriving : Ranges) (arrives : Bool) (here : Lookup) (j i : ℕ) : Type 0 where
@@ -82,6 +65,11 @@ module _ (targets : List ℕ) (arriving : Ranges) {here : Lookup} {known : Range
   pub takes_nothing : here ≡ Nowhere → known ≡ arriving → known ≡ claim_or arriving (target_found targets here)
   unfolding target_found
   takes_nothing nowhere is = rw nowhere is
+
+-- a pass is one whatever the target here is called
+pub pass_with : {l : Layout} {code targets : List ℕ} {n k : ℕ} {arriving : Ranges} {arrives : Bool} {here here' : Lookup} {j i : ℕ} → here' ≡ here
+    → Pass l code targets n k arriving arrives here j i → Pass l code targets n k arriving arrives here' j i
+pass_with same pass = rw same pass
 
 -- and what it has after them: the ranges along the edge to the next index, and the target there
 pub record Left (l : Layout) (targets : List ℕ) (k : ℕ) (here : Lookup) (j i : ℕ) (known : Ranges) (x : Instruction)
@@ -182,14 +170,14 @@ module _ {l : Layout} {code targets : List ℕ} {n k : ℕ} (loaded : Loaded l c
             next_is : kept ≡ next_kept (program_of l code targets) i
             next_is = tested (program_of l code targets) i standing.is_falls is_next found_there
 
-            pub next_refuses : (r : Finding) → not kept ≡ true → fault_in r ≡ some (fault 11 i)
+            pub next_refuses : (r : Finding) → kept ≡ false → fault_in r ≡ some (fault 11 i)
                 → fault_in r ≡ first_fault (verified (program_of l code targets))
             next_refuses r broken is =
                 is ∙ sym (index_faulty (at_index (program_of l code targets)) i n (fault 11 i) below
-                (sym (broken_next_claim (program_of l code targets) i rules_met (test_fails next_is broken)))) ∙ pass.rest
+                (sym (broken_next_claim (program_of l code targets) i rules_met (sym next_is ∙ broken)))) ∙ pass.rest
 
             -- what is left where nothing is refused
-            pub turn_passes : not kept ≡ false → Pass l code targets n k next falls there j' (i + 1)
+            pub turn_passes : kept ≡ true → Pass l code targets n k next falls there j' (i + 1)
             turn_passes keeps = record {
               within = omega arith;
               is_arriving = rw (add-one i) is_next;
@@ -198,6 +186,6 @@ module _ {l : Layout} {code targets : List ℕ} {n k : ℕ} (loaded : Loaded l c
               cursor = onwards;
               rest =
                   sym (index_faultless (at_index (program_of l code targets)) i n below
-                  (next_claim_kept (program_of l code targets) i rules_met (test_passes next_is keeps)))
+                  (next_claim_kept (program_of l code targets) i rules_met (sym next_is ∙ keeps)))
                   ∙ pass.rest;
             }

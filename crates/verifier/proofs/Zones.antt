@@ -20,7 +20,6 @@ use Rattle.model.specs.Judgement.{is_contained}
 use Rattle.model.specs.Rules.{LayoutKept}
 use Rattle.model.proofs.Tests.{by_cond, same_order}
 use Rattle.model.proofs.Values.{some_size}
-use Rattle.model.proofs.Containment.{few_bytes}
 use Rattle.verifier.specs.Standing.{wrapped_region}
 
 -- where rule 5 is kept a region has a byte, and its end does not wrap
@@ -57,10 +56,6 @@ pub record Ends (w : Width) (imm : ℤ) (x : Range) (lowest highest last : ℕ) 
   pub is_lowest : sub_ℕ lowest modulus ≡ pos x.low +ℤ to_z w32 (of_z w32 imm)
   pub is_highest : sub_ℕ highest modulus ≡ pos x.high +ℤ to_z w32 (of_z w32 imm)
   pub is_last : last ≡ bytes_of w - 1
-
--- an access moves four bytes or fewer
-pub last_small : {w : Width} {imm : ℤ} {x : Range} {lowest highest last : ℕ} → Ends w imm x lowest highest last → last < 4
-last_small {w = w} ends = omega (arith, ends.is_last, few_bytes w)
 
 module _ {l : Layout} (kept : LayoutKept l) {w : Width} {imm : ℤ} (fit : SFits w32 imm)
     {x : Range} {lowest highest last : ℕ} (ends : Ends w imm x lowest highest last) where
