@@ -2,9 +2,8 @@
 use mathlib.Core.Path.{refl}
 use Rattle.model.specs.Answers.{fault_of}
 use Rattle.writer.specs.Reports.{report_of}
-use Rattle.writer.proofs.write.refused.Statement.{statement}
-use Rattle.writer.proofs.write.refused.Tie as tie
+use Rattle.writer.proofs.write.refused.Goals as goal
 
-pub refused_spec : {M : Type 1} → statement M
+pub returns : goal.returns
 unfolding report_of fault_of
-refused_spec = tie.close (tie.spec (λ c. refl))
+returns c = refl

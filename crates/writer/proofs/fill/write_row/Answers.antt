@@ -1,0 +1,32 @@
+-- `writer::fill::write_row` meets its contract: four bytes and a word are stored one behind the other. Assumes nothing.
+use Prim.Native.Nat.{ℕ, ◌%◌}
+use mathlib.Core.Path.{refl}
+use mathlib.Core.List.{[], ◌∷◌}
+use native.Mathlib.Omega.{arith}
+use lib.ListN.{get_or, length-set}
+use Rattle.model.specs.Words.{low_bytes}
+use Rattle.model.specs.Writer.{row_bytes}
+use Rattle.writer.specs.Rows.{row_of}
+use Rattle.writer.proofs.Storing.{number_behind, four_stored, stored_length}
+use Rattle.writer.proofs.fill.write_row.Goals as goal
+
+pub bounds-buffer-at-2 : goal.bounds-buffer-at-2
+bounds-buffer-at-2 c = simp length-set (omega arith)
+
+pub bounds-buffer-at-3 : goal.bounds-buffer-at-3
+bounds-buffer-at-3 c = simp length-set (omega arith)
+
+pub bounds-buffer-at-4 : goal.bounds-buffer-at-4
+bounds-buffer-at-4 c = simp length-set (omega arith)
+
+pub returns : goal.returns
+unfolding low_bytes
+returns c = let entry = c.args in
+    let l = entry.buffer.now in
+    let low : ℕ → ℕ = λ i. get_or entry.row i 0 % 256 in
+    number_behind 4 _ l entry.at (low 0 ∷ low 1 ∷ low 2 ∷ low 3 ∷ []) (four_stored l entry.at (low 0) (low 1) (low 2) (low 3)) refl
+    (omega arith) c.write_u32.ensures
+
+pub shape_of-buffer : goal.shape_of-buffer
+shape_of-buffer c = let entry = c.args in
+    stored_length entry.buffer.now entry.at (row_bytes (row_of entry.row)) (returns c)
