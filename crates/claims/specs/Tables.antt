@@ -1,7 +1,7 @@
 -- The table, in the model's terms. Assumes nothing.
 use Rattle.std.specs.Prelude.{ℕ, ◌≡◌, Bool, true, false, List, [], map, eqb, length, get_or, set}
 use Rattle.std.proofs.Math.Option.{Option, none, some}
-use Rattle.std.specs.Borrow.{Bor}
+use Rattle.std.specs.Borrow.{MutBor}
 use denote.Triple.Both.{Both}
 use Rattle.model.specs.File.{most_targets, tabulate, target_index, target_kind}
 use Rattle.model.specs.declared.Ranges.{Ranges}
@@ -21,11 +21,11 @@ abbrev pub rows : List Bool → List (List ℕ) → List (List ℕ) → List (Li
 rows reached lows highs grown grows = record { reached = reached; lows = lows; highs = highs; grown = grown; grows = grows }
 
 -- those of five lent arrays; and as a function finds them and leaves them
-abbrev pub rows_now : Bor (List Bool) → Bor (List (List ℕ)) → Bor (List (List ℕ)) → Bor (List (List ℕ)) → Bor (List (List Bool)) → Rows
+abbrev pub rows_now : MutBor (List Bool) → MutBor (List (List ℕ)) → MutBor (List (List ℕ)) → MutBor (List (List ℕ)) → MutBor (List (List Bool)) → Rows
 rows_now reached lows highs grown grows = rows reached.now lows.now highs.now grown.now grows.now
 
 abbrev pub Lent : Type 0 → Type 0
-Lent X = Both (Bor X) (Bor X)
+Lent X = Both (MutBor X) (MutBor X)
 
 abbrev pub rows_before : Lent (List Bool) → Lent (List (List ℕ)) → Lent (List (List ℕ)) → Lent (List (List ℕ)) → Lent (List (List Bool)) → Rows
 rows_before reached lows highs grown grows = rows_now reached.entry lows.entry highs.entry grown.entry grows.entry

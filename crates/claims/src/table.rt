@@ -2,7 +2,7 @@
 // lent: whether a target is reached, the lowest and the highest values of its claim, in how many earlier sweeps each register has grown,
 // and whether it has in this one.
 ghost use Rattle.std.specs.Prelude.{◌≡◌, ◌<◌};
-ghost use Rattle.claims.specs.Tables.{rows_before, rows_after, row_at, put_row};
+ghost use Rattle.claims.specs.Tables.{rows, rows_before, rows_after, row_at, put_row};
 
 use crate::entry::Row;
 use model::Ranges;
@@ -20,7 +20,7 @@ pub(crate) fn row_at(
     number: u32,
 ) -> Row
     requires { number < 256 }
-    ensures { result ≡ row_at (rows_before reached lows highs grown grows) number }
+    ensures { result ≡ row_at (rows reached.now lows.now highs.now grown.now grows.now) number }
 {
     let j = number as usize;
     let claim = Ranges {
