@@ -56,7 +56,7 @@ pub struct WriteAnswer {
 // The ending of a refused run.
 const NOT_RUN: u32 = 5;
 
-#[tactic(auto, unfolding(crate::specs::Numbers::module_numbers, reader::specs::Readings::reading_of))]
+#[tactic(auto, unfolding(crate::specs::Numbers::module_numbers, reader::specs::Readings::reading_of, model::specs::Answers::fault_of))]
 pub fn module_answer(parsed: Parsed) -> ModuleAnswer
     ensures { result ≡ module_numbers (reading_of parsed) }
 {
@@ -88,7 +88,7 @@ pub fn module_answer(parsed: Parsed) -> ModuleAnswer
     }
 }
 
-#[tactic(auto, unfolding(crate::specs::Numbers::verdict_numbers, model::specs::Answers::judgement_of))]
+#[tactic(auto, unfolding(crate::specs::Numbers::verdict_numbers, model::specs::Answers::judgement_of, model::specs::Answers::fault_of))]
 pub fn verdict_answer(verdict: Verdict) -> VerdictAnswer
     ensures { result ≡ verdict_numbers (judgement_of verdict) }
 {
@@ -114,7 +114,7 @@ pub fn verdict_answer(verdict: Verdict) -> VerdictAnswer
     }
 }
 
-#[tactic(auto, unfolding(crate::specs::Numbers::run_numbers, model::specs::Answers::report_of))]
+#[tactic(auto, unfolding(crate::specs::Numbers::run_numbers, model::specs::Answers::report_of, model::specs::Answers::fault_of))]
 pub fn run_answer(answer: Answer) -> RunAnswer
     ensures { result ≡ run_numbers (report_of answer) }
 {
@@ -138,7 +138,7 @@ pub fn run_answer(answer: Answer) -> RunAnswer
     }
 }
 
-#[tactic(auto, unfolding(crate::specs::Numbers::write_numbers, writer::specs::Reports::report_of))]
+#[tactic(auto, unfolding(crate::specs::Numbers::write_numbers, writer::specs::Reports::report_of, model::specs::Answers::fault_of))]
 pub fn write_answer(written: Written) -> WriteAnswer
     ensures { result ≡ write_numbers (Reports.report_of written) }
 {
