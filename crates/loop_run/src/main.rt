@@ -3,8 +3,13 @@
 // Its input here is document 01's loop.
 #![tactic(auto)]
 
-use libc::{STDIN_FILENO, STDOUT_FILENO};
+ghost use Rattle.std.specs.Prelude.{◌≤◌, IfOk};
+
 use model::{Completion, Ending, Machine, Steps};
+use std::io::{self, Read};
+
+// How many bytes of the input are read, at most.
+const MOST: usize = 65_536;
 
 const OFFSET: usize = 1000;
 
@@ -14,50 +19,52 @@ fn wide(x: u32) -> u64 {
     x as u64
 }
 
-fn print_ending(ending: Ending) {
+fn print_ending(rt: &impl Print, ending: Ending) -> io::Result<()> {
     match ending {
-        Ending::Halted => {
-            io::write_all(STDOUT_FILENO, b"halted");
-        }
-        Ending::Trapped => {
-            io::write_all(STDOUT_FILENO, b"trapped");
-        }
-        Ending::Denied => {
-            io::write_all(STDOUT_FILENO, b"denied");
-        }
-        Ending::Violated => {
-            io::write_all(STDOUT_FILENO, b"violated");
-        }
-        Ending::OutOfBudget => {
-            io::write_all(STDOUT_FILENO, b"out of budget");
-        }
+        Ending::Halted => rt.print("halted"),
+        Ending::Trapped => rt.print("trapped"),
+        Ending::Denied => rt.print("denied"),
+        Ending::Violated => rt.print("violated"),
+        Ending::OutOfBudget => rt.print("out of budget"),
     }
 }
 
-fn main() {
-    let mut file = io::large_buffer();
-    let n = io::read_full(STDIN_FILENO, &mut file);
-    let mut memory = io::large_buffer();
+// Reads until the buffer is full or the input ends, and answers how many bytes there are.
+fn read_full(input: &mut impl Read, buffer: &mut [u8; MOST]) -> io::Result<usize>
+    ensures { IfOk result (λ n. n ≤ 65536) }
+{
+    let mut n = 0;
+    for _turn in 0..MOST {
+        let got = input.read(&mut buffer[n..])?;
+        if got == 0 {
+            return Ok(n);
+        }
+        n += got;
+    }
+    Ok(n)
+}
+
+fn main(rt: HostRuntime) -> io::Result<()> {
+    let mut buffer = [0u8; MOST];
+    let n = read_full(&mut rt.stdin(), &mut buffer)?;
+    let mut memory = [0u8; 65536];
     let start = Machine {
         registers: [0; 8],
         pc: 0,
     };
-    let outcome = machine::value::run(&file[..n], start, &mut memory, OFFSET, BUDGET);
+    let outcome = machine::value::run(&buffer[..n], start, &mut memory, OFFSET, BUDGET);
     let answer = outcome.answer;
     let completion = answer.completion;
     match completion {
-        Completion::Ended { ending } => print_ending(ending),
-        Completion::Refused { refusal: _ } => {
-            io::write_all(STDOUT_FILENO, b"refused");
-        }
+        Completion::Ended { ending } => print_ending(&rt, ending)?,
+        Completion::Refused { refusal: _ } => rt.print("refused")?,
     }
-    io::write_all(STDOUT_FILENO, b" after ");
-    io::print_decimal(STDOUT_FILENO, answer.steps as u64);
-    io::write_all(STDOUT_FILENO, b" steps, pc ");
+    let steps = answer.steps;
     let after = outcome.machine;
-    io::print_decimal(STDOUT_FILENO, after.pc as u64);
-    io::write_all(STDOUT_FILENO, b", r1 ");
     let registers = after.registers;
-    io::print_hex(STDOUT_FILENO, wide(registers[1]), 8);
-    io::write_all(STDOUT_FILENO, b"\n");
+    println!(rt;
+        " after {steps} steps, pc {}, r1 {:08x}",
+        after.pc,
+        wide(registers[1])
+    )
 }
