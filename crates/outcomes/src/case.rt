@@ -31,7 +31,7 @@ fn run(file: &[u8], s: Start, seed: &mut u32, tally: &mut [u32; 256]) {
     let registers = s.registers;
     let x = ours::run(file, registers, s.place, &mut left, s.offset, s.budget);
     let y = reference::run(file, registers, s.place, &mut right, s.offset, s.budget);
-    let alike = same_run(x, y) && check::same(&left, &right);
+    let alike = same_run(x, y) && left == right;
     count_run(tally, y, alike);
 }
 

@@ -2,6 +2,7 @@
 // say.
 use super::score::report;
 use super::{limit, order, range, sample, space, step, worked};
+use std::io;
 
 const RULE_B: u32 = 0;
 
@@ -71,36 +72,36 @@ fn case(score: &mut [u32; 4], group: u32, i: usize) {
     }
 }
 
-fn group(words: &[u8], which: u32, rows: usize) {
+fn group(rt: &impl Print, words: &str, which: u32, rows: usize) -> io::Result<()> {
     let mut score = [0u32; 4];
     let mut i = 0;
     while i < rows {
         case(&mut score, which, i);
         i += 1;
     }
-    report(words, &score);
+    report(rt, words, &score)
 }
 
-pub(crate) fn groups() {
-    group(b"rule B", RULE_B, 31);
-    group(b"rule N and loads", RULE_N, 20);
-    group(b"rule N's cuts", CUTS, 55);
-    group(b"accesses at the guard's edges", ACCESSES, 28);
-    group(b"rule W", RULE_W, 21);
-    group(b"set, copy, andi and guard", MOVES, 15);
-    group(b"shifts", SHIFTS, 12);
-    group(b"the order of 8 to 13", ORDERS, 18);
-    group(b"checks and places of jumps", JUMPS, 16);
-    group(b"the order of 4 to 7", SPOILED, 9);
-    group(b"layouts", LAYOUTS, 20);
-    group(b"limits of 4096 and 256", COUNTS, 9);
-    group(b"room for the region", ROOMS, 6);
-    group(b"accesses that are done", DONE, 17);
-    group(b"accesses that end the run", ENDS, 27);
-    group(b"accesses at the ends of the address space", SPACE, 39);
-    group(b"jumps, tests and values", OTHERS, 26);
-    group(b"signed samples", SAMPLES, 26);
-    group(b"widths of loads and stores", WIDTHS, 38);
-    group(b"claims that are worked out", CLAIMS, 12);
-    group(b"claims of 256 doors", CHAINS, 2);
+pub(crate) fn groups(rt: &impl Print) -> io::Result<()> {
+    group(rt, "rule B", RULE_B, 31)?;
+    group(rt, "rule N and loads", RULE_N, 20)?;
+    group(rt, "rule N's cuts", CUTS, 55)?;
+    group(rt, "accesses at the guard's edges", ACCESSES, 28)?;
+    group(rt, "rule W", RULE_W, 21)?;
+    group(rt, "set, copy, andi and guard", MOVES, 15)?;
+    group(rt, "shifts", SHIFTS, 12)?;
+    group(rt, "the order of 8 to 13", ORDERS, 18)?;
+    group(rt, "checks and places of jumps", JUMPS, 16)?;
+    group(rt, "the order of 4 to 7", SPOILED, 9)?;
+    group(rt, "layouts", LAYOUTS, 20)?;
+    group(rt, "limits of 4096 and 256", COUNTS, 9)?;
+    group(rt, "room for the region", ROOMS, 6)?;
+    group(rt, "accesses that are done", DONE, 17)?;
+    group(rt, "accesses that end the run", ENDS, 27)?;
+    group(rt, "accesses at the ends of the address space", SPACE, 39)?;
+    group(rt, "jumps, tests and values", OTHERS, 26)?;
+    group(rt, "signed samples", SAMPLES, 26)?;
+    group(rt, "widths of loads and stores", WIDTHS, 38)?;
+    group(rt, "claims that are worked out", CLAIMS, 12)?;
+    group(rt, "claims of 256 doors", CHAINS, 2)
 }

@@ -7,6 +7,7 @@ use super::build::{
 use super::ours;
 use super::tally::{write, write_number};
 use reference::{Judged, Ran};
+use std::io;
 
 const BASE: u32 = 536870912;
 
@@ -126,104 +127,98 @@ fn write_module(buf: &mut [u8], rows: &[[u32; 5]; 8]) -> usize {
     door_at(n, head[3])
 }
 
-fn write_judged(x: Judged) {
+fn write_judged(rt: &impl Print, x: Judged) -> io::Result<()> {
     if x.accepted {
-        write(b"accepted ");
+        write(rt, "accepted ")?;
     } else {
-        write(b"refused ");
+        write(rt, "refused ")?;
     }
-    write_number(x.first);
-    write(b" ");
-    write_number(x.second);
+    print!(rt; "{} {}", x.first, x.second)
 }
 
-fn verdicts(words: &[u8], file: &[u8]) {
-    write(words);
-    write(b": ");
-    write_judged(ours::verify(file));
-    write(b" and ");
-    write_judged(reference::verify(file));
-    write(b"\n");
+fn verdicts(rt: &impl Print, words: &str, file: &[u8]) -> io::Result<()> {
+    print!(rt; "{words}: ")?;
+    write_judged(rt, ours::verify(file))?;
+    write(rt, " and ")?;
+    write_judged(rt, reference::verify(file))?;
+    println!(rt)
 }
 
-fn module_verdicts(words: &[u8], rows: &[[u32; 5]; 8]) {
+fn module_verdicts(rt: &impl Print, words: &str, rows: &[[u32; 5]; 8]) -> io::Result<()> {
     let mut buf = [0u8; 1024];
     let length = write_module(&mut buf, rows);
-    verdicts(words, front(&buf, length));
+    verdicts(rt, words, front(&buf, length))
 }
 
 // The loop, with this guard, and with r1 claimed to be at most this far above DL.
-fn loop_verdicts(words: &[u8], guard: u32, above: u32) {
+fn loop_verdicts(rt: &impl Print, words: &str, guard: u32, above: u32) -> io::Result<()> {
     let mut buf = [0u8; 1024];
     let length = write_module(&mut buf, &LOOP);
     layout(&mut buf, BASE, SIZE, guard);
     claim(&mut buf, 4, 1, 1, BASE, LAST + above % 16);
-    verdicts(words, front(&buf, length));
+    verdicts(rt, words, front(&buf, length))
 }
 
-fn write_ending(x: Ran) {
+fn write_ending(rt: &impl Print, x: Ran) -> io::Result<()> {
     let code = x.code;
     if x.refused {
-        write(b"refused ");
-        return write_number(code);
+        write(rt, "refused ")?;
+        return write_number(rt, code);
     }
     match code {
-        0 => write(b"halted"),
-        1 => write(b"trapped"),
-        2 => write(b"turned away"),
-        3 => write(b"strayed"),
-        _ => write(b"spent"),
+        0 => write(rt, "halted"),
+        1 => write(rt, "trapped"),
+        2 => write(rt, "turned away"),
+        3 => write(rt, "strayed"),
+        _ => write(rt, "spent"),
     }
 }
 
-fn write_ran(x: Ran, r: u32) {
+fn write_ran(rt: &impl Print, x: Ran, r: u32) -> io::Result<()> {
     let registers = x.registers;
-    write_ending(x);
-    write(b", steps ");
-    write_number(x.steps);
-    write(b", place ");
-    write_number(x.place as u32);
-    write(b", r");
-    write_number(r);
-    write(b" ");
-    write_number(registers[wide(r) % 8]);
+    write_ending(rt, x)?;
+    print!(rt;
+        ", steps {}, place {}, r{r} {}",
+        x.steps,
+        x.place,
+        registers[wide(r) % 8]
+    )
 }
 
 // The module's run with 0 in every register, over a memory of sevens that holds its region; register r is shown.
-fn runs(words: &[u8], rows: &[[u32; 5]; 8], r: u32) {
+fn runs(rt: &impl Print, words: &str, rows: &[[u32; 5]; 8], r: u32) -> io::Result<()> {
     let mut buf = [0u8; 1024];
     let length = write_module(&mut buf, rows);
     let mut left = [7u8; 5000];
     let mut right = [7u8; 5000];
     let x = ours::run(front(&buf, length), [0; 8], 0, &mut left, 300, 10000);
     let y = reference::run(front(&buf, length), [0; 8], 0, &mut right, 300, 10000);
-    write(words);
-    write(b": ");
-    write_ran(x, r);
-    write(b" and ");
-    write_ran(y, r);
-    write(b"\n");
+    print!(rt; "{words}: ")?;
+    write_ran(rt, x, r)?;
+    write(rt, " and ")?;
+    write_ran(rt, y, r)?;
+    println!(rt)
 }
 
-fn known_loop() {
-    loop_verdicts(b"the loop", 256, 4);
-    loop_verdicts(b"the loop with guard 7", 7, 4);
-    loop_verdicts(b"the loop with guard 6", 6, 4);
-    loop_verdicts(b"the loop with r1 claimed DB to DL", 256, 0);
-    verdicts(b"the empty module", b"");
-    runs(b"the loop's run", &LOOP, 1);
+fn known_loop(rt: &impl Print) -> io::Result<()> {
+    loop_verdicts(rt, "the loop", 256, 4)?;
+    loop_verdicts(rt, "the loop with guard 7", 7, 4)?;
+    loop_verdicts(rt, "the loop with guard 6", 6, 4)?;
+    loop_verdicts(rt, "the loop with r1 claimed DB to DL", 256, 0)?;
+    verdicts(rt, "the empty module", b"")?;
+    runs(rt, "the loop's run", &LOOP, 1)
 }
 
-fn known_turns() {
-    module_verdicts(b"stereo", &STEREO);
-    module_verdicts(b"stereo, the right sample only", &RIGHT_ONLY);
-    module_verdicts(b"an empty cut of rule N", &EMPTY_N);
-    module_verdicts(b"a cut of rule N that empties one of rule B", &EMPTY_B);
-    module_verdicts(b"a load whose address wraps", &WRAPPED);
-    runs(b"its run", &WRAPPED, 0);
+fn known_turns(rt: &impl Print) -> io::Result<()> {
+    module_verdicts(rt, "stereo", &STEREO)?;
+    module_verdicts(rt, "stereo, the right sample only", &RIGHT_ONLY)?;
+    module_verdicts(rt, "an empty cut of rule N", &EMPTY_N)?;
+    module_verdicts(rt, "a cut of rule N that empties one of rule B", &EMPTY_B)?;
+    module_verdicts(rt, "a load whose address wraps", &WRAPPED)?;
+    runs(rt, "its run", &WRAPPED, 0)
 }
 
-pub(crate) fn known() {
-    known_loop();
-    known_turns();
+pub(crate) fn known(rt: &impl Print) -> io::Result<()> {
+    known_loop(rt)?;
+    known_turns(rt)
 }

@@ -130,7 +130,7 @@ pub(crate) fn chains(score: &mut [u32; 4], i: usize) {
         second: 256,
     };
     let five = [5u8, 0, 0, 0, 5, 0, 0, 0];
-    let alike = check::same(&left, &right) && is_claimed(&left, end(n, 255) + 4, &five);
+    let alike = left == right && is_claimed(&left, end(n, 255) + 4, &five);
     note(
         score,
         alike && same_verdict(x, answer),

@@ -28,6 +28,8 @@ mod tally;
 mod work;
 mod worked;
 
+use std::io;
+
 const CASES: u32 = 3000;
 
 // The tallies of verdicts and runs, and of claims that are worked out.
@@ -42,12 +44,12 @@ fn cases(tally: &mut [u32; 256], worked: &mut [u32; 256]) {
     }
 }
 
-fn main() {
-    known::known();
-    groups::groups();
+fn main(rt: HostRuntime) -> io::Result<()> {
+    known::known(&rt)?;
+    groups::groups(&rt)?;
     let mut tally = [0u32; 256];
     let mut worked = [0u32; 256];
     cases(&mut tally, &mut worked);
-    tally::report(&tally);
-    tally::report_worked(&worked);
+    tally::report(&rt, &tally)?;
+    tally::report_worked(&rt, &worked)
 }

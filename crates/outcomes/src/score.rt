@@ -1,7 +1,7 @@
 // How many of a group's known outcomes were asked for, and how many each implementation gave.
 use super::ours;
-use super::tally::{write, write_number};
 use reference::{Judged, Ran};
+use std::io;
 
 // Asked, ours, the reference's.
 const ASKED: usize = 0;
@@ -84,13 +84,9 @@ pub(crate) fn roomed(x: Ran, number: u32) -> bool {
     x.refused && x.code == number && x.at == 0 && x.steps == 0
 }
 
-pub(crate) fn report(words: &[u8], score: &[u32; 4]) {
-    write(words);
-    write(b": as documents 01 and 02 say ");
-    write_number(score[1]);
-    write(b" and ");
-    write_number(score[2]);
-    write(b" of ");
-    write_number(score[0]);
-    write(b"\n");
+pub(crate) fn report(rt: &impl Print, words: &str, score: &[u32; 4]) -> io::Result<()> {
+    println!(rt;
+        "{words}: as documents 01 and 02 say {} and {} of {}",
+        score[BY_OURS], score[BY_THEIRS], score[ASKED]
+    )
 }

@@ -69,8 +69,8 @@ pub(crate) fn step_in(
     let z = reference::run(front(&buf, LENGTH), registers, 0, &mut right, 100, 1);
     note(
         score,
-        stepped(y, after) && check::same(&left, &memory),
-        stepped(z, after) && check::same(&right, &memory),
+        stepped(y, after) && left == memory,
+        stepped(z, after) && right == memory,
     );
 }
 

@@ -1,7 +1,7 @@
 // How often each answer was given, and the lines that say so.
 use super::build::wide;
-use libc::STDOUT_FILENO;
 use reference::{Judged, Ran};
+use std::io;
 
 // The slots of a tally of 256: verdicts from 0 up (0 accepted, else the refusal's number), refused runs from 64 and
 // ended ones from 128 up, then how many were compared and agree. A refusal's number is below 64.
@@ -59,86 +59,103 @@ pub(crate) fn count_run(tally: &mut [u32; 256], x: Ran, alike: bool) {
     }
 }
 
-pub(crate) fn write(words: &[u8]) {
-    io::write_all(STDOUT_FILENO, words);
+pub(crate) fn write(rt: &impl Print, words: &str) -> io::Result<()> {
+    rt.print(words)
 }
 
-pub(crate) fn write_number(number: u32) {
-    io::print_decimal(STDOUT_FILENO, number as u64);
+pub(crate) fn write_number(rt: &impl Print, number: u32) -> io::Result<()> {
+    rt.print(number)
 }
 
 fn entry(tally: &[u32; 256], slot: usize) -> u32 {
     tally[slot % 256]
 }
 
-fn line(words: &[u8], number: u32) {
-    write(words);
-    write(b": ");
-    write_number(number);
-    write(b"\n");
+fn line(rt: &impl Print, words: &str, number: u32) -> io::Result<()> {
+    println!(rt; "{words}: {number}")
 }
 
-fn agreement(words: &[u8], alike: u32, all: u32) {
-    write(words);
-    write_number(alike);
-    write(b" of ");
-    write_number(all);
-    write(b"\n");
+fn agreement(rt: &impl Print, words: &str, alike: u32, all: u32) -> io::Result<()> {
+    println!(rt; "{words}{alike} of {all}")
 }
 
 // A refusal that was given.
-fn refusal(tally: &[u32; 256], words: &[u8], slots: usize, number: u32) {
+fn refusal(
+    rt: &impl Print,
+    tally: &[u32; 256],
+    words: &str,
+    slots: usize,
+    number: u32,
+) -> io::Result<()> {
     let given = entry(tally, slots % 256 + wide(number));
     if 0 < given {
-        write(words);
-        write_number(number);
-        line(b"", given);
+        write(rt, words)?;
+        write_number(rt, number)?;
+        line(rt, "", given)?;
     }
+    Ok(())
 }
 
-fn refusals(tally: &[u32; 256], words: &[u8], slots: usize) {
+fn refusals(rt: &impl Print, tally: &[u32; 256], words: &str, slots: usize) -> io::Result<()> {
     let mut number = 1u32;
     while number < 64 {
-        refusal(tally, words, slots, number);
+        refusal(rt, tally, words, slots, number)?;
         number += 1;
     }
+    Ok(())
 }
 
-fn endings(tally: &[u32; 256]) {
-    line(b"halted", entry(tally, ENDED_RUNS));
-    line(b"trapped", entry(tally, ENDED_RUNS + 1));
-    line(b"turned away", entry(tally, ENDED_RUNS + 2));
-    line(b"strayed", entry(tally, ENDED_RUNS + 3));
-    line(b"spent", entry(tally, ENDED_RUNS + 4));
+fn endings(rt: &impl Print, tally: &[u32; 256]) -> io::Result<()> {
+    line(rt, "halted", entry(tally, ENDED_RUNS))?;
+    line(rt, "trapped", entry(tally, ENDED_RUNS + 1))?;
+    line(rt, "turned away", entry(tally, ENDED_RUNS + 2))?;
+    line(rt, "strayed", entry(tally, ENDED_RUNS + 3))?;
+    line(rt, "spent", entry(tally, ENDED_RUNS + 4))
 }
 
-pub(crate) fn report(tally: &[u32; 256]) {
+pub(crate) fn report(rt: &impl Print, tally: &[u32; 256]) -> io::Result<()> {
     agreement(
-        b"verdicts agree ",
+        rt,
+        "verdicts agree ",
         entry(tally, JUDGED_ALIKE),
         entry(tally, JUDGED),
-    );
-    agreement(b"runs agree ", entry(tally, RAN_ALIKE), entry(tally, RAN));
-    line(b"accepted", entry(tally, VERDICTS));
-    refusals(tally, b"refused ", VERDICTS);
-    refusals(tally, b"run refused ", REFUSED_RUNS);
-    endings(tally);
+    )?;
+    agreement(
+        rt,
+        "runs agree ",
+        entry(tally, RAN_ALIKE),
+        entry(tally, RAN),
+    )?;
+    line(rt, "accepted", entry(tally, VERDICTS))?;
+    refusals(rt, tally, "refused ", VERDICTS)?;
+    refusals(rt, tally, "run refused ", REFUSED_RUNS)?;
+    endings(rt, tally)
 }
 
-pub(crate) fn report_worked(worked: &[u32; 256]) {
+pub(crate) fn report_worked(rt: &impl Print, worked: &[u32; 256]) -> io::Result<()> {
     agreement(
-        b"claims worked out alike ",
+        rt,
+        "claims worked out alike ",
         entry(worked, JUDGED_ALIKE),
         entry(worked, JUDGED),
-    );
-    line(b"worked out and accepted", entry(worked, VERDICTS));
-    line(b"then verified", entry(worked, VERIFIED));
-    line(b"the same when worked out again", entry(worked, SAME_AGAIN));
-    refusals(worked, b"worked out and refused ", VERDICTS);
-    line(b"refused with the bytes as they came", entry(worked, KEPT));
+    )?;
+    line(rt, "worked out and accepted", entry(worked, VERDICTS))?;
+    line(rt, "then verified", entry(worked, VERIFIED))?;
     line(
-        b"loops whose r0 is widened to anything",
+        rt,
+        "the same when worked out again",
+        entry(worked, SAME_AGAIN),
+    )?;
+    refusals(rt, worked, "worked out and refused ", VERDICTS)?;
+    line(
+        rt,
+        "refused with the bytes as they came",
+        entry(worked, KEPT),
+    )?;
+    line(
+        rt,
+        "loops whose r0 is widened to anything",
         entry(worked, WIDENED),
-    );
-    line(b"loops whose r0 keeps a range", entry(worked, NARROW));
+    )?;
+    line(rt, "loops whose r0 keeps a range", entry(worked, NARROW))
 }

@@ -27,7 +27,7 @@ pub(crate) fn is_claimed(buf: &[u8], at: usize, bytes: &[u8]) -> bool {
     if buf.len() < to {
         return false;
     }
-    check::same(&buf[from..to], bytes)
+    &buf[from..to] == bytes
 }
 
 // Whether this is the answer, and these the bytes afterwards.
@@ -39,7 +39,7 @@ pub(crate) fn ours_as(
 ) -> bool {
     let mut buf = given;
     let x = by_ours(&mut buf, length);
-    same_verdict(x, answer) && check::same(&buf, after)
+    same_verdict(x, answer) && buf == *after
 }
 
 pub(crate) fn theirs_as(
@@ -50,7 +50,7 @@ pub(crate) fn theirs_as(
 ) -> bool {
     let mut buf = given;
     let y = by_theirs(&mut buf, length);
-    same_verdict(y, answer) && check::same(&buf, after)
+    same_verdict(y, answer) && buf == *after
 }
 
 // An accepted file has its claims: verify accepts it, and working them out again changes nothing.
@@ -72,7 +72,7 @@ pub(crate) fn compare(worked: &mut [u32; 256], given: [u8; 1024], length: usize)
     if answer.accepted {
         return count_accepted(worked, after, length, answer);
     }
-    if check::same(&after, &given) {
+    if after == given {
         count(worked, KEPT);
     }
 }

@@ -35,7 +35,7 @@ pub(crate) fn write_into(
     fill(right);
     let ours = by_ours(layout, code, doors, left);
     let theirs = by_theirs(layout, code, doors, right);
-    let good = check::same(left, right) && stands(left, ours, layout, code, doors.len());
+    let good = *left == *right && stands(left, ours, layout, code, doors.len());
     Both { ours, theirs, good }
 }
 

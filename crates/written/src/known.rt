@@ -4,6 +4,7 @@ use super::limit::{count_at, limits, order_at};
 use super::score::report;
 use super::{change, sample};
 use reference::Written;
+use std::io;
 
 // The refusal with this number and place, or, where the number is 0, a file of this length.
 pub(crate) fn answer(number: u32, second: u32) -> Written {
@@ -44,29 +45,31 @@ fn case(score: &mut [u32; 32], group: u32, i: usize) {
     }
 }
 
-fn group(words: &[u8], which: u32, rows: usize) {
+fn group(rt: &impl Print, words: &str, which: u32, rows: usize) -> io::Result<()> {
     let mut score = [0u32; 32];
     let mut i = 0;
     while i < rows {
         case(&mut score, which, i);
         i += 1;
     }
-    report(words, &score);
+    report(rt, words, &score)
 }
 
-pub(crate) fn groups() {
-    group(b"the loop, as documents 01 and 02 say: ", LOOPED, 3);
+pub(crate) fn groups(rt: &impl Print) -> io::Result<()> {
+    group(rt, "the loop, as documents 01 and 02 say: ", LOOPED, 3)?;
     group(
-        b"counts, and space for the file, as documents 01 and 02 say: ",
+        rt,
+        "counts, and space for the file, as documents 01 and 02 say: ",
         COUNTED,
         23,
-    );
-    group(b"layouts, as documents 01 and 02 say: ", LAID_OUT, 42);
-    group(b"instructions, as documents 01 and 02 say: ", CODED, 133);
-    group(b"doors, as documents 01 and 02 say: ", ENTERED, 91);
+    )?;
+    group(rt, "layouts, as documents 01 and 02 say: ", LAID_OUT, 42)?;
+    group(rt, "instructions, as documents 01 and 02 say: ", CODED, 133)?;
+    group(rt, "doors, as documents 01 and 02 say: ", ENTERED, 91)?;
     group(
-        b"two faults at once, as documents 01 and 02 say: ",
+        rt,
+        "two faults at once, as documents 01 and 02 say: ",
         ORDERED,
         16,
-    );
+    )
 }

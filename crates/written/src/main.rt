@@ -18,6 +18,8 @@ mod sample;
 mod score;
 mod writers;
 
+use std::io;
+
 const CASES: u32 = 2000;
 
 fn cases(tally: &mut [u32; 32]) {
@@ -29,10 +31,14 @@ fn cases(tally: &mut [u32; 32]) {
     }
 }
 
-fn main() {
-    known::groups();
+fn main(rt: HostRuntime) -> io::Result<()> {
+    known::groups(&rt)?;
     let mut tally = [0u32; 32];
     cases(&mut tally);
-    score::report(b"generated tables, alike and as they should be: ", &tally);
-    score::report_answers(&tally);
+    score::report(
+        &rt,
+        "generated tables, alike and as they should be: ",
+        &tally,
+    )?;
+    score::report_answers(&rt, &tally)
 }

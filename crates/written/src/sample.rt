@@ -49,9 +49,7 @@ pub(crate) fn loop_doors() -> [[u32; 18]; 2] {
 // The loop's file: a line for each header, for the layout and for each instruction; of a door one for index, kind and the
 // zero byte, and one for each register.
 fn is_loop(file: &[u8]) -> bool {
-    check::same(
-        file,
-        b"\x01\x0C\x00\
+    let expected: &[u8] = b"\x01\x0C\x00\
           \x00\x00\x00\x20\x00\x10\x00\x00\x00\x01\x00\x00\
           \x02\x20\x00\
           \x07\x01\x00\x00\x00\x00\x00\x00\
@@ -76,8 +74,8 @@ fn is_loop(file: &[u8]) -> bool {
           \x00\x00\x00\x00\xFF\xFF\xFF\xFF\
           \x00\x00\x00\x00\xFF\xFF\xFF\xFF\
           \x00\x00\x00\x00\xFF\xFF\xFF\xFF\
-          \x00\x00\x00\x00\xFF\xFF\xFF\xFF",
-    )
+          \x00\x00\x00\x00\xFF\xFF\xFF\xFF";
+    file == expected
 }
 
 fn write_loop(score: &mut [u32; 32], left: &mut [u8], right: &mut [u8]) {

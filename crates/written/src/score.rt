@@ -2,8 +2,8 @@
 use super::both::Both;
 use super::rows::wide;
 use super::writers::same_answer;
-use libc::STDOUT_FILENO;
 use reference::Written;
+use std::io;
 
 // The slots: files that were written, refusals by their number, then how many were asked for, and how many of each
 // writer's answers are right.
@@ -33,33 +33,34 @@ pub(crate) fn note(score: &mut [u32; 32], both: Both, asked: Written) {
     count(score, slot(y), true);
 }
 
-fn write(words: &[u8], number: u32) {
-    io::write_all(STDOUT_FILENO, words);
-    io::print_decimal(STDOUT_FILENO, number as u64);
+fn write(rt: &impl Print, words: &str, number: u32) -> io::Result<()> {
+    print!(rt; "{words}{number}")
 }
 
-pub(crate) fn report(words: &[u8], score: &[u32; 32]) {
-    write(words, score[OURS]);
-    write(b" and ", score[THEIRS]);
-    write(b" of ", score[ASKED]);
-    io::write_all(STDOUT_FILENO, b"\n");
+pub(crate) fn report(rt: &impl Print, words: &str, score: &[u32; 32]) -> io::Result<()> {
+    write(rt, words, score[OURS])?;
+    write(rt, " and ", score[THEIRS])?;
+    write(rt, " of ", score[ASKED])?;
+    println!(rt)
 }
 
 // An answer that was given.
-fn answers(number: u32, given: u32) {
+fn answers(rt: &impl Print, number: u32, given: u32) -> io::Result<()> {
     if 0 < given {
-        write(b"refused ", number);
-        write(b": ", given);
-        io::write_all(STDOUT_FILENO, b"\n");
+        write(rt, "refused ", number)?;
+        write(rt, ": ", given)?;
+        println!(rt)?;
     }
+    Ok(())
 }
 
-pub(crate) fn report_answers(score: &[u32; 32]) {
-    write(b"written: ", score[0]);
-    io::write_all(STDOUT_FILENO, b"\n");
+pub(crate) fn report_answers(rt: &impl Print, score: &[u32; 32]) -> io::Result<()> {
+    write(rt, "written: ", score[0])?;
+    println!(rt)?;
     let mut number = 1u32;
     while number < 29 {
-        answers(number, score[wide(number) % 32]);
+        answers(rt, number, score[wide(number) % 32])?;
         number += 1;
     }
+    Ok(())
 }

@@ -1,0 +1,10 @@
+-- `outcomes::worked::write_claims` is safe and ends: the buffer keeps its length, and the measure is what is left of the claims. Assumes
+-- nothing.
+use Rattle.std.proofs.Common.{◌≡◌, ◌-◌, length}
+use Rattle.outcomes.proofs.worked.write_claims.Given as goal
+
+abbrev pub invariant-loop-t : goal.invariant-loop-t
+invariant-loop-t l = length l.buf ≡ length l.initial.buf
+
+abbrev pub decreases-loop-t : goal.decreases-loop-t
+decreases-loop-t l = 25 - l.t
