@@ -1,7 +1,7 @@
 -- Document 02, ticket 6: a run makes at most its budget of steps, so in a width that holds the budget neither budget nor count loses
 -- anything; and so runs join in that width as they do in natural numbers. Assumes nothing.
 use Prim.Native.Nat.{ℕ, zero, suc, ◌+◌, ◌^◌, ◌≤◌, ◌<◌}
-use mathlib.Core.Path.{◌≡◌, refl, sym, ap, ◌∙◌}
+use mathlib.Core.Path.{◌≡◌, sym, ap, ◌∙◌}
 use mathlib.Core.List.{List}
 use mathlib.Core.Option.{Option, none, some}
 use native.Mathlib.Nat.{mod-eq_of_lt}
@@ -14,7 +14,7 @@ use Rattle.model.specs.Answers.{Report, ended, rejected, steps_in}
 use Rattle.model.specs.Program.{Program}
 use Rattle.model.specs.Step.{Step, step}
 use Rattle.model.specs.File.{layout_in, program_in}
-use Rattle.model.specs.Run.{Run, followed, run, steps, stretch, Seen, finished, runnable, unless_refused, run_on, RunPost, seen_after}
+use Rattle.model.specs.Run.{Run, followed, run, steps, stretch, Seen, finished, runnable, unless_refused, run_on, seen_after}
 use Rattle.model.specs.Counts.{earlier_step_bits, in_bits, count_in, run_in}
 use Rattle.model.specs.Promises.{CountsCarried}
 use Rattle.model.proofs.JoiningCalls.{joining_calls}

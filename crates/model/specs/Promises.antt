@@ -20,7 +20,7 @@ use Rattle.model.specs.File.{byte_at, code_in, instruction_count, InstructionRow
 use Rattle.model.specs.Judgement.{obligations, first_broken, judgement}
 use Rattle.model.specs.Claims.{begun, swept, given, sweeping, most_sweeps, code_of, worked_out, with_claims, reclaimed, claimed, finished_file, work_out}
 use Rattle.model.specs.Rules.{FileKept, FilePlaced, KeepsEveryRule, Runnable}
-use Rattle.model.specs.Run.{Seen, run, runnable, run_on, RunPost, seen_after}
+use Rattle.model.specs.Run.{Seen, runnable, run_on, RunPost, seen_after}
 use Rattle.model.specs.Counts.{step_bits, earlier_step_bits, run_in}
 use Rattle.model.specs.Walk.{Call, walk, seen_in, Called}
 use Rattle.model.specs.Safety.{Fed, EightWords, InZones, InRegionOf}
