@@ -14,7 +14,7 @@
  * Nothing is kept between calls: no pointer, no state, no heap. Calls on different machines, memories and buffers may
  * be made at the same time. Each call gets the module's bytes, or its tables, and judges them.
  *
- * The library is built for x86-64 Linux by `rt staticlib madsjirn`, which writes target/staticlib/libmadsjirn.a:
+ * The library is built for x86-64 Linux by `rt lib` in crates/madsjirn, which writes out/libmadsjirn.a there:
  * compile with -I include and link that file. A call of madsjirn_work_out writes less than 23,000 bytes below its
  * caller's stack pointer, one of any other function less than 900 (measured, not proved: docs/PERFORMANCE.md). No call
  * recurses or makes a system call.

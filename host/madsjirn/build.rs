@@ -1,5 +1,5 @@
 //! Tells the linker where the proved library `libmadsjirn.a` is: in the folder
-//! `MADSJIRN_LIB_DIR`, or where `rt staticlib madsjirn` writes it.
+//! `MADSJIRN_LIB_DIR`, or where `rt lib` in crates/madsjirn writes it.
 
 use std::env;
 use std::path::{Path, PathBuf};
@@ -10,7 +10,7 @@ fn main() {
     let library = folder.join("libmadsjirn.a");
     assert!(
         library.is_file(),
-        "{} is missing: run `rt staticlib madsjirn`, or set MADSJIRN_LIB_DIR",
+        "{} is missing: run `rt lib` in crates/madsjirn, or set MADSJIRN_LIB_DIR",
         library.display()
     );
     println!("cargo:rerun-if-changed={}", library.display());
@@ -23,7 +23,7 @@ fn library_folder() -> PathBuf {
         Some(folder) if !folder.is_empty() => PathBuf::from(folder),
         _ => {
             let here = env::var_os("CARGO_MANIFEST_DIR").expect("cargo sets CARGO_MANIFEST_DIR");
-            Path::new(&here).join("../../target/staticlib")
+            Path::new(&here).join("../../crates/madsjirn/out")
         }
     }
 }

@@ -49,10 +49,10 @@ module _ {l : Layout} (kept : LayoutKept l) (at : ℕ) (word : at < modulus) (w 
       (by_distance l.base l.size 0 (bytes_of w) at (omega arith) (omega (arith, kept.above)) (some_bytes w)
       (omega (arith, few_bytes w, least_size kept)) word)
 
-  pub zones-by-distance
+  pub zones_by_distance
       : leb (wrap (sub_ℕ at (l.base - l.guard))) (l.size + l.guard + l.guard - bytes_of w) ≡ in_zones l at (bytes_of w)
   unfolding in_zones
-  zones-by-distance =
+  zones_by_distance =
       by_distance l.base l.size l.guard (bytes_of w) at kept.below kept.above (some_bytes w)
       (omega (arith, few_bytes w, least_size kept)) word
 

@@ -1,7 +1,7 @@
 -- `machine::access::in_zones` meets its contract: by the law of distances. Assumes nothing.
 use native.Mathlib.Omega.{arith}
 use Rattle.model.proofs.Values.{least_size, most_size}
-use Rattle.machine.proofs.Reaching.{zones-by-distance}
+use Rattle.machine.proofs.Reaching.{zones_by_distance}
 use Rattle.machine.proofs.access.in_zones.Goals as goal
 
 pub overflow_sub-layout : goal.overflow_sub-layout
@@ -20,4 +20,4 @@ overflow_sub-most c = omega (arith, c.bytes_of.ensures.1, least_size c.requires)
 
 pub returns : goal.returns
 returns c = rw (c.difference-distance.ensures, c.bytes_of.ensures.0)
-    (zones-by-distance c.requires _ c.ranges.address.fits c.args.width)
+    (zones_by_distance c.requires _ c.ranges.address.fits c.args.width)
