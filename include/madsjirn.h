@@ -16,7 +16,7 @@
  *
  * The library is built for x86-64 Linux by `rt lib` in crates/madsjirn, which writes out/libmadsjirn.a there:
  * compile with -I include and link that file. A call of madsjirn_work_out writes less than 23,000 bytes below its
- * caller's stack pointer, one of any other function less than 900 (measured, not proved: docs/PERFORMANCE.md). No call
+ * caller's stack pointer, one of any other function less than 1,000 (measured, not proved: docs/PERFORMANCE.md). No call
  * recurses or makes a system call.
  *
  * Answers are numbers: member refusal is 0, or the number of the first rule broken, in the documents' order, and
