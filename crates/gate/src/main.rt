@@ -3,11 +3,10 @@
 // is what the whole comes to (`LongFiles`, in the model's promises).
 #![tactic(auto)]
 
-ghost use Rattle.std.specs.Prelude.{◌≤◌, IfOk};
 ghost use Rattle.model.specs.Judgement.{judgement};
 ghost use Rattle.model.specs.Line.{LinePost};
 
-use std::io::{self, Read};
+use std::io;
 
 // How many bytes of the input are read, at most.
 const MOST: usize = 65_536;
@@ -20,24 +19,9 @@ fn answer(file: &[u8], text: &mut [u8; line::ROOM]) -> usize
     line::write_line(verdict, text)
 }
 
-// Reads until the buffer is full or the input ends, and answers how many bytes there are.
-fn read_full(input: &mut impl Read, buffer: &mut [u8; MOST]) -> io::Result<usize>
-    ensures { IfOk result (λ n. n ≤ 65536) }
-{
-    let mut n = 0;
-    for _turn in 0..MOST {
-        let got = input.read(&mut buffer[n..])?;
-        if got == 0 {
-            return Ok(n);
-        }
-        n += got;
-    }
-    Ok(n)
-}
-
 fn main(rt: HostRuntime) -> io::Result<()> {
     let mut buffer = [0u8; MOST];
-    let n = read_full(&mut rt.stdin(), &mut buffer)?;
+    let n = input::read_full(&mut rt.stdin(), &mut buffer)?;
     let mut text = [0u8; line::ROOM];
     let length = answer(&buffer[..n], &mut text);
     rt.write_all(&text[..length])

@@ -3,10 +3,8 @@
 // Its input here is document 01's loop.
 #![tactic(auto)]
 
-ghost use Rattle.std.specs.Prelude.{◌≤◌, IfOk};
-
 use model::{Completion, Ending, Machine, Steps};
-use std::io::{self, Read};
+use std::io;
 
 // How many bytes of the input are read, at most.
 const MOST: usize = 65_536;
@@ -29,24 +27,9 @@ fn print_ending(rt: &impl Print, ending: Ending) -> io::Result<()> {
     }
 }
 
-// Reads until the buffer is full or the input ends, and answers how many bytes there are.
-fn read_full(input: &mut impl Read, buffer: &mut [u8; MOST]) -> io::Result<usize>
-    ensures { IfOk result (λ n. n ≤ 65536) }
-{
-    let mut n = 0;
-    for _turn in 0..MOST {
-        let got = input.read(&mut buffer[n..])?;
-        if got == 0 {
-            return Ok(n);
-        }
-        n += got;
-    }
-    Ok(n)
-}
-
 fn main(rt: HostRuntime) -> io::Result<()> {
     let mut buffer = [0u8; MOST];
-    let n = read_full(&mut rt.stdin(), &mut buffer)?;
+    let n = input::read_full(&mut rt.stdin(), &mut buffer)?;
     let mut memory = [0u8; 65536];
     let start = Machine {
         registers: [0; 8],
