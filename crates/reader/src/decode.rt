@@ -204,6 +204,7 @@ fn test_of(w: u8) -> Test
 }
 
 // The instruction of an opcode and its operand bytes.
+#[tactic(auto, using(words::proofs::Signed::kept_signed, crate::proofs::Rows::looked_up, crate::proofs::Rows::no_instruction_lem), unfolding(model::specs::File::decode, model::specs::File::rows, crate::specs::Decoding::instruction_of))]
 pub fn decode(op: u8, a: u8, b: u8, w: u8, imm: u32) -> Decoded
     ensures { instruction_of result ≡ decode op a b w imm }
 {
