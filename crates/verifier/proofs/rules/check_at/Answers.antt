@@ -16,7 +16,7 @@ use Rattle.model.specs.Answers.{rule_number}
 use Rattle.model.specs.Program.{is_target}
 use Rattle.model.specs.Instructions.{shape, traits}
 use Rattle.model.specs.File.{program_of}
-use Rattle.model.specs.Judgement.{traits_at}
+use Rattle.model.specs.Judgement.{traits_at, is_reachable, is_checked, access_contained, jumps_to_target, stays_inside}
 use Rattle.reader.specs.declared.lookup.Lookup.{Lookup}
 use Rattle.reader.specs.Findings.{fault_in}
 use Rattle.reader.specs.Lookups.{FindsNamed, target_found}
@@ -25,6 +25,7 @@ use Rattle.verifier.specs.Standing.{Standing, target_named}
 use Rattle.verifier.proofs.ByRule.{named_target}
 use Rattle.verifier.proofs.Order.{unreachable, unchecked_jump, wild_access, no_target, falls_off, broken_taken_claim, all_kept}
 use Rattle.verifier.proofs.rules.check_at.Goals as goal
+use Rattle.verifier.proofs.rules.check_at.Goals.{Else-not-is_reachable, Else-not-is_checked, Else-not-access_contained, Else-not-jumps_to_target, Else-not-stays_inside}
 
 layout_of_program : (l : Layout) (code targets : List ℕ) → l ≡ (program_of l code targets).layout
 unfolding program_of
@@ -45,82 +46,59 @@ module _ {l : Layout} {code targets : List ℕ} {n k i : ℕ} {arrives : Bool} {
   last_is : eqb (i + 1) n ≡ eqb (i + 1) (length (program_of l code targets).code)
   last_is = ap (eqb (i + 1)) (sym (program_count s.loaded))
 
+-- each rule that is kept, in their order
+reachable : (c : Else-not-is_reachable) → is_reachable (program_of c.args.layout c.args.code.now c.args.targets.now) c.args.i ≡ true
+reachable c = sym (c.is_reachable.ensures _ _ c.requires.is_arrives (found_here c.requires _ (c.is_target-marked.ensures _))) ∙ c.if-not-is_reachable.false
+
+checked : (c : Else-not-is_checked) → is_checked (program_of c.args.layout c.args.code.now c.args.targets.now) c.args.i ≡ true
+checked c = sym (c.is_checked.ensures _ _ _ _ c.requires.loaded c.requires.below c.requires.instruction_is (found_here c.requires _ (c.is_target-marked.ensures _))) ∙ c.if-not-is_checked.false
+
+contained : (c : Else-not-access_contained) → access_contained (program_of c.args.layout c.args.code.now c.args.targets.now) c.args.i ≡ true
+contained c = sym (c.access_contained.ensures _ _ (layout_of_program c.args.layout c.args.code.now c.args.targets.now) c.requires.instruction_is c.requires.is_known) ∙ c.if-not-access_contained.false
+
+lands : (c : Else-not-jumps_to_target) → jumps_to_target (program_of c.args.layout c.args.code.now c.args.targets.now) c.args.i ≡ true
+lands c = sym (c.jumps_to_target.ensures _ _ _ c.requires.instruction_is (found_named c.requires _ c.target_named-named.ensures)) ∙ c.if-not-jumps_to_target.false
+
+inside : (c : Else-not-stays_inside) → stays_inside (program_of c.args.layout c.args.code.now c.args.targets.now) c.args.i ≡ true
+inside c = sym (c.stays_inside.ensures _ _ c.requires.is_falls (last_is c.requires)) ∙ c.if-not-stays_inside.false
+
 pub returns-then-not-is_reachable : goal.returns-then-not-is_reachable
 unfolding rule_number
 returns-then-not-is_reachable c =
-    let s = c.requires in let p = program_of c.args.layout c.args.code.now c.args.targets.now in let i = c.args.i in
-    let marked = found_here s c.is_target-marked.result (c.is_target-marked.ensures c.args.targets.now) in
-    let says = c.is_reachable.ensures p i s.is_arrives marked in
-    c.unmet.ensures ∙ unreachable p i (sym says ∙ c.if-not-is_reachable.true)
+    c.unmet.ensures ∙ unreachable _ _ (sym (c.is_reachable.ensures _ _ c.requires.is_arrives (found_here c.requires _ (c.is_target-marked.ensures _))) ∙ c.if-not-is_reachable.true)
 
 pub returns-then-not-is_checked : goal.returns-then-not-is_checked
 unfolding rule_number
 returns-then-not-is_checked c =
-    let s = c.requires in let p = program_of c.args.layout c.args.code.now c.args.targets.now in let i = c.args.i in
-    let marked = found_here s c.is_target-marked.result (c.is_target-marked.ensures c.args.targets.now) in
-    let reachable = sym (c.is_reachable.ensures p i s.is_arrives marked) ∙ c.if-not-is_reachable.false in
-    let says = c.is_checked.ensures c.args.layout c.args.targets.now c.args.n c.args.k s.loaded s.below s.instruction_is marked in
-    c.unmet-then-not-is_checked.ensures ∙ unchecked_jump p i reachable (sym says ∙ c.if-not-is_checked.true)
+    let at = goal.at.returns-then-not-is_checked c in
+    c.unmet-then-not-is_checked.ensures ∙ unchecked_jump _ _ (reachable at.Else-not-is_reachable) (sym (c.is_checked.ensures _ _ _ _ c.requires.loaded c.requires.below c.requires.instruction_is (found_here c.requires _ (c.is_target-marked.ensures _))) ∙ c.if-not-is_checked.true)
 
 pub returns-then-not-access_contained : goal.returns-then-not-access_contained
 unfolding rule_number
 returns-then-not-access_contained c =
-    let s = c.requires in let p = program_of c.args.layout c.args.code.now c.args.targets.now in let i = c.args.i in
-    let marked = found_here s c.is_target-marked.result (c.is_target-marked.ensures c.args.targets.now) in
-    let reachable = sym (c.is_reachable.ensures p i s.is_arrives marked) ∙ c.if-not-is_reachable.false in
-    let checked = sym (c.is_checked.ensures c.args.layout c.args.targets.now c.args.n c.args.k s.loaded s.below s.instruction_is marked) ∙ c.if-not-is_checked.false in
-    let says = c.access_contained.ensures p i (layout_of_program c.args.layout c.args.code.now c.args.targets.now) s.instruction_is s.is_known in
-    c.unmet-then-not-access_contained.ensures ∙ wild_access p i reachable checked (sym says ∙ c.if-not-access_contained.true)
+    let at = goal.at.returns-then-not-access_contained c in
+    c.unmet-then-not-access_contained.ensures ∙ wild_access _ _ (reachable at.Else-not-is_reachable) (checked at.Else-not-is_checked) (sym (c.access_contained.ensures _ _ (layout_of_program c.args.layout c.args.code.now c.args.targets.now) c.requires.instruction_is c.requires.is_known) ∙ c.if-not-access_contained.true)
 
 pub returns-then-not-jumps_to_target : goal.returns-then-not-jumps_to_target
 unfolding rule_number
 returns-then-not-jumps_to_target c =
-    let s = c.requires in let p = program_of c.args.layout c.args.code.now c.args.targets.now in let i = c.args.i in
-    let marked = found_here s c.is_target-marked.result (c.is_target-marked.ensures c.args.targets.now) in
-    let reachable = sym (c.is_reachable.ensures p i s.is_arrives marked) ∙ c.if-not-is_reachable.false in
-    let checked = sym (c.is_checked.ensures c.args.layout c.args.targets.now c.args.n c.args.k s.loaded s.below s.instruction_is marked) ∙ c.if-not-is_checked.false in
-    let contained = sym (c.access_contained.ensures p i (layout_of_program c.args.layout c.args.code.now c.args.targets.now) s.instruction_is s.is_known) ∙ c.if-not-access_contained.false in
-    let named = found_named s c.target_named-named.result c.target_named-named.ensures in
-    let says = c.jumps_to_target.ensures p i c.args.targets.now s.instruction_is named in
-    c.unmet-then-not-jumps_to_target.ensures ∙ no_target p i reachable checked contained (sym says ∙ c.if-not-jumps_to_target.true)
+    let at = goal.at.returns-then-not-jumps_to_target c in
+    c.unmet-then-not-jumps_to_target.ensures ∙ no_target _ _ (reachable at.Else-not-is_reachable) (checked at.Else-not-is_checked) (contained at.Else-not-access_contained) (sym (c.jumps_to_target.ensures _ _ _ c.requires.instruction_is (found_named c.requires _ c.target_named-named.ensures)) ∙ c.if-not-jumps_to_target.true)
 
 pub returns-then-not-stays_inside : goal.returns-then-not-stays_inside
 unfolding rule_number
 returns-then-not-stays_inside c =
-    let s = c.requires in let p = program_of c.args.layout c.args.code.now c.args.targets.now in let i = c.args.i in
-    let marked = found_here s c.is_target-marked.result (c.is_target-marked.ensures c.args.targets.now) in
-    let reachable = sym (c.is_reachable.ensures p i s.is_arrives marked) ∙ c.if-not-is_reachable.false in
-    let checked = sym (c.is_checked.ensures c.args.layout c.args.targets.now c.args.n c.args.k s.loaded s.below s.instruction_is marked) ∙ c.if-not-is_checked.false in
-    let contained = sym (c.access_contained.ensures p i (layout_of_program c.args.layout c.args.code.now c.args.targets.now) s.instruction_is s.is_known) ∙ c.if-not-access_contained.false in
-    let named = found_named s c.target_named-named.result c.target_named-named.ensures in
-    let lands = sym (c.jumps_to_target.ensures p i c.args.targets.now s.instruction_is named) ∙ c.if-not-jumps_to_target.false in
-    let says = c.stays_inside.ensures p i s.is_falls (last_is s) in
-    c.unmet-then-not-stays_inside.ensures ∙ falls_off p i reachable checked contained lands (sym says ∙ c.if-not-stays_inside.true)
+    let at = goal.at.returns-then-not-stays_inside c in
+    c.unmet-then-not-stays_inside.ensures ∙ falls_off _ _ (reachable at.Else-not-is_reachable) (checked at.Else-not-is_checked) (contained at.Else-not-access_contained) (lands at.Else-not-jumps_to_target) (sym (c.stays_inside.ensures _ _ c.requires.is_falls (last_is c.requires)) ∙ c.if-not-stays_inside.true)
 
 pub returns-then-not-taken_kept : goal.returns-then-not-taken_kept
 unfolding rule_number
 returns-then-not-taken_kept c =
-    let s = c.requires in let p = program_of c.args.layout c.args.code.now c.args.targets.now in let i = c.args.i in
-    let marked = found_here s c.is_target-marked.result (c.is_target-marked.ensures c.args.targets.now) in
-    let reachable = sym (c.is_reachable.ensures p i s.is_arrives marked) ∙ c.if-not-is_reachable.false in
-    let checked = sym (c.is_checked.ensures c.args.layout c.args.targets.now c.args.n c.args.k s.loaded s.below s.instruction_is marked) ∙ c.if-not-is_checked.false in
-    let contained = sym (c.access_contained.ensures p i (layout_of_program c.args.layout c.args.code.now c.args.targets.now) s.instruction_is s.is_known) ∙ c.if-not-access_contained.false in
-    let named = found_named s c.target_named-named.result c.target_named-named.ensures in
-    let lands = sym (c.jumps_to_target.ensures p i c.args.targets.now s.instruction_is named) ∙ c.if-not-jumps_to_target.false in
-    let inside = sym (c.stays_inside.ensures p i s.is_falls (last_is s)) ∙ c.if-not-stays_inside.false in
-    let says = c.taken_kept.ensures p i s.instruction_is s.is_known named in
-    c.unmet-then-not-taken_kept.ensures ∙ broken_taken_claim p i reachable checked contained lands inside (sym says ∙ c.if-not-taken_kept.true)
+    let at = goal.at.returns-then-not-taken_kept c in
+    c.unmet-then-not-taken_kept.ensures ∙ broken_taken_claim _ _ (reachable at.Else-not-is_reachable) (checked at.Else-not-is_checked) (contained at.Else-not-access_contained) (lands at.Else-not-jumps_to_target) (inside at.Else-not-stays_inside) (sym (c.taken_kept.ensures _ _ c.requires.instruction_is c.requires.is_known (found_named c.requires _ c.target_named-named.ensures)) ∙ c.if-not-taken_kept.true)
 
 pub returns : goal.returns
 unfolding fault_in
 returns c =
-    let s = c.requires in let p = program_of c.args.layout c.args.code.now c.args.targets.now in let i = c.args.i in
-    let marked = found_here s c.is_target-marked.result (c.is_target-marked.ensures c.args.targets.now) in
-    let reachable = sym (c.is_reachable.ensures p i s.is_arrives marked) ∙ c.if-not-is_reachable.false in
-    let checked = sym (c.is_checked.ensures c.args.layout c.args.targets.now c.args.n c.args.k s.loaded s.below s.instruction_is marked) ∙ c.if-not-is_checked.false in
-    let contained = sym (c.access_contained.ensures p i (layout_of_program c.args.layout c.args.code.now c.args.targets.now) s.instruction_is s.is_known) ∙ c.if-not-access_contained.false in
-    let named = found_named s c.target_named-named.result c.target_named-named.ensures in
-    let lands = sym (c.jumps_to_target.ensures p i c.args.targets.now s.instruction_is named) ∙ c.if-not-jumps_to_target.false in
-    let inside = sym (c.stays_inside.ensures p i s.is_falls (last_is s)) ∙ c.if-not-stays_inside.false in
-    let says = c.taken_kept.ensures p i s.instruction_is s.is_known named in
-    all_kept p i reachable checked contained lands inside (sym says ∙ c.if-not-taken_kept.false)
+    let at = goal.at.returns c in
+    all_kept _ _ (reachable at.Else-not-is_reachable) (checked at.Else-not-is_checked) (contained at.Else-not-access_contained) (lands at.Else-not-jumps_to_target) (inside at.Else-not-stays_inside) (sym (c.taken_kept.ensures _ _ c.requires.instruction_is c.requires.is_known (found_named c.requires _ c.target_named-named.ensures)) ∙ c.if-not-taken_kept.false)
