@@ -16,7 +16,7 @@ use Rattle.model.specs.Answers.{rule_number}
 use Rattle.model.specs.Program.{is_target}
 use Rattle.model.specs.Instructions.{shape, traits}
 use Rattle.model.specs.File.{program_of}
-use Rattle.model.specs.Judgement.{traits_at, is_reachable, is_checked, access_contained, jumps_to_target, stays_inside}
+use Rattle.model.specs.Judgement.{traits_at, is_reachable, is_checked, access_contained, jumps_to_target, stays_inside, taken_kept}
 use Rattle.reader.specs.declared.lookup.Lookup.{Lookup}
 use Rattle.reader.specs.Findings.{fault_in}
 use Rattle.reader.specs.Lookups.{FindsNamed, target_found}
@@ -25,7 +25,7 @@ use Rattle.verifier.specs.Standing.{Standing, target_named}
 use Rattle.verifier.proofs.ByRule.{named_target}
 use Rattle.verifier.proofs.Order.{unreachable, unchecked_jump, wild_access, no_target, falls_off, broken_taken_claim, all_kept}
 use Rattle.verifier.proofs.rules.check_at.Goals as goal
-use Rattle.verifier.proofs.rules.check_at.Goals.{Else-not-is_reachable, Else-not-is_checked, Else-not-access_contained, Else-not-jumps_to_target, Else-not-stays_inside}
+use Rattle.verifier.proofs.rules.check_at.Goals.{After-is_reachable, After-is_checked, After-access_contained, After-jumps_to_target, After-stays_inside, After-taken_kept}
 
 layout_of_program : (l : Layout) (code targets : List ℕ) → l ≡ (program_of l code targets).layout
 unfolding program_of
@@ -46,59 +46,77 @@ module _ {l : Layout} {code targets : List ℕ} {n k i : ℕ} {arrives : Bool} {
   last_is : eqb (i + 1) n ≡ eqb (i + 1) (length (program_of l code targets).code)
   last_is = ap (eqb (i + 1)) (sym (program_count s.loaded))
 
--- each rule that is kept, in their order
-reachable : (c : Else-not-is_reachable) → is_reachable (program_of c.args.layout c.args.code.now c.args.targets.now) c.args.i ≡ true
-reachable c = sym (c.is_reachable.ensures _ _ c.requires.is_arrives (found_here c.requires _ (c.is_target-marked.ensures _))) ∙ c.if-not-is_reachable.false
+-- what each rule answers is the model's answer
+reachable : (c : After-is_reachable) {answer : Bool} → c.is_reachable.result ≡ answer → is_reachable (program_of c.args.layout c.args.code.now c.args.targets.now) c.args.i ≡ answer
+reachable c is = sym (c.is_reachable.ensures _ _ c.requires.is_arrives (found_here c.requires _ (c.is_target-marked.ensures _))) ∙ is
 
-checked : (c : Else-not-is_checked) → is_checked (program_of c.args.layout c.args.code.now c.args.targets.now) c.args.i ≡ true
-checked c = sym (c.is_checked.ensures _ _ _ _ c.requires.loaded c.requires.below c.requires.instruction_is (found_here c.requires _ (c.is_target-marked.ensures _))) ∙ c.if-not-is_checked.false
+checked : (c : After-is_checked) {answer : Bool} → c.is_checked.result ≡ answer → is_checked (program_of c.args.layout c.args.code.now c.args.targets.now) c.args.i ≡ answer
+checked c is = sym (c.is_checked.ensures _ _ _ _ c.requires.loaded c.requires.below c.requires.instruction_is (found_here c.requires _ (c.is_target-marked.ensures _))) ∙ is
 
-contained : (c : Else-not-access_contained) → access_contained (program_of c.args.layout c.args.code.now c.args.targets.now) c.args.i ≡ true
-contained c = sym (c.access_contained.ensures _ _ (layout_of_program c.args.layout c.args.code.now c.args.targets.now) c.requires.instruction_is c.requires.is_known) ∙ c.if-not-access_contained.false
+contained : (c : After-access_contained) {answer : Bool} → c.access_contained.result ≡ answer → access_contained (program_of c.args.layout c.args.code.now c.args.targets.now) c.args.i ≡ answer
+contained c is = sym (c.access_contained.ensures _ _ (layout_of_program c.args.layout c.args.code.now c.args.targets.now) c.requires.instruction_is c.requires.is_known) ∙ is
 
-lands : (c : Else-not-jumps_to_target) → jumps_to_target (program_of c.args.layout c.args.code.now c.args.targets.now) c.args.i ≡ true
-lands c = sym (c.jumps_to_target.ensures _ _ _ c.requires.instruction_is (found_named c.requires _ c.target_named-named.ensures)) ∙ c.if-not-jumps_to_target.false
+lands : (c : After-jumps_to_target) {answer : Bool} → c.jumps_to_target.result ≡ answer → jumps_to_target (program_of c.args.layout c.args.code.now c.args.targets.now) c.args.i ≡ answer
+lands c is = sym (c.jumps_to_target.ensures _ _ _ c.requires.instruction_is (found_named c.requires _ c.target_named-named.ensures)) ∙ is
 
-inside : (c : Else-not-stays_inside) → stays_inside (program_of c.args.layout c.args.code.now c.args.targets.now) c.args.i ≡ true
-inside c = sym (c.stays_inside.ensures _ _ c.requires.is_falls (last_is c.requires)) ∙ c.if-not-stays_inside.false
+inside : (c : After-stays_inside) {answer : Bool} → c.stays_inside.result ≡ answer → stays_inside (program_of c.args.layout c.args.code.now c.args.targets.now) c.args.i ≡ answer
+inside c is = sym (c.stays_inside.ensures _ _ c.requires.is_falls (last_is c.requires)) ∙ is
+
+taken : (c : After-taken_kept) {answer : Bool} → c.taken_kept.result ≡ answer → taken_kept (program_of c.args.layout c.args.code.now c.args.targets.now) c.args.i ≡ answer
+taken c is = sym (c.taken_kept.ensures _ _ c.requires.instruction_is c.requires.is_known (found_named c.requires _ c.target_named-named.ensures)) ∙ is
 
 pub returns-then-not-is_reachable : goal.returns-then-not-is_reachable
 unfolding rule_number
 returns-then-not-is_reachable c =
-    c.unmet.ensures ∙ unreachable _ _ (sym (c.is_reachable.ensures _ _ c.requires.is_arrives (found_here c.requires _ (c.is_target-marked.ensures _))) ∙ c.if-not-is_reachable.true)
+    let at = goal.at.returns-then-not-is_reachable c in
+    c.unmet.ensures ∙ unreachable _ _ (reachable at.After-is_reachable c.if-not-is_reachable.true)
 
 pub returns-then-not-is_checked : goal.returns-then-not-is_checked
 unfolding rule_number
 returns-then-not-is_checked c =
     let at = goal.at.returns-then-not-is_checked c in
-    c.unmet-then-not-is_checked.ensures ∙ unchecked_jump _ _ (reachable at.Else-not-is_reachable) (sym (c.is_checked.ensures _ _ _ _ c.requires.loaded c.requires.below c.requires.instruction_is (found_here c.requires _ (c.is_target-marked.ensures _))) ∙ c.if-not-is_checked.true)
+    c.unmet-then-not-is_checked.ensures ∙ unchecked_jump _ _
+    (reachable at.After-is_reachable c.if-not-is_reachable.false) (checked at.After-is_checked c.if-not-is_checked.true)
 
 pub returns-then-not-access_contained : goal.returns-then-not-access_contained
 unfolding rule_number
 returns-then-not-access_contained c =
     let at = goal.at.returns-then-not-access_contained c in
-    c.unmet-then-not-access_contained.ensures ∙ wild_access _ _ (reachable at.Else-not-is_reachable) (checked at.Else-not-is_checked) (sym (c.access_contained.ensures _ _ (layout_of_program c.args.layout c.args.code.now c.args.targets.now) c.requires.instruction_is c.requires.is_known) ∙ c.if-not-access_contained.true)
+    c.unmet-then-not-access_contained.ensures ∙ wild_access _ _
+    (reachable at.After-is_reachable c.if-not-is_reachable.false) (checked at.After-is_checked c.if-not-is_checked.false)
+    (contained at.After-access_contained c.if-not-access_contained.true)
 
 pub returns-then-not-jumps_to_target : goal.returns-then-not-jumps_to_target
 unfolding rule_number
 returns-then-not-jumps_to_target c =
     let at = goal.at.returns-then-not-jumps_to_target c in
-    c.unmet-then-not-jumps_to_target.ensures ∙ no_target _ _ (reachable at.Else-not-is_reachable) (checked at.Else-not-is_checked) (contained at.Else-not-access_contained) (sym (c.jumps_to_target.ensures _ _ _ c.requires.instruction_is (found_named c.requires _ c.target_named-named.ensures)) ∙ c.if-not-jumps_to_target.true)
+    c.unmet-then-not-jumps_to_target.ensures ∙ no_target _ _
+    (reachable at.After-is_reachable c.if-not-is_reachable.false) (checked at.After-is_checked c.if-not-is_checked.false)
+    (contained at.After-access_contained c.if-not-access_contained.false) (lands at.After-jumps_to_target c.if-not-jumps_to_target.true)
 
 pub returns-then-not-stays_inside : goal.returns-then-not-stays_inside
 unfolding rule_number
 returns-then-not-stays_inside c =
     let at = goal.at.returns-then-not-stays_inside c in
-    c.unmet-then-not-stays_inside.ensures ∙ falls_off _ _ (reachable at.Else-not-is_reachable) (checked at.Else-not-is_checked) (contained at.Else-not-access_contained) (lands at.Else-not-jumps_to_target) (sym (c.stays_inside.ensures _ _ c.requires.is_falls (last_is c.requires)) ∙ c.if-not-stays_inside.true)
+    c.unmet-then-not-stays_inside.ensures ∙ falls_off _ _
+    (reachable at.After-is_reachable c.if-not-is_reachable.false) (checked at.After-is_checked c.if-not-is_checked.false)
+    (contained at.After-access_contained c.if-not-access_contained.false) (lands at.After-jumps_to_target c.if-not-jumps_to_target.false)
+    (inside at.After-stays_inside c.if-not-stays_inside.true)
 
 pub returns-then-not-taken_kept : goal.returns-then-not-taken_kept
 unfolding rule_number
 returns-then-not-taken_kept c =
     let at = goal.at.returns-then-not-taken_kept c in
-    c.unmet-then-not-taken_kept.ensures ∙ broken_taken_claim _ _ (reachable at.Else-not-is_reachable) (checked at.Else-not-is_checked) (contained at.Else-not-access_contained) (lands at.Else-not-jumps_to_target) (inside at.Else-not-stays_inside) (sym (c.taken_kept.ensures _ _ c.requires.instruction_is c.requires.is_known (found_named c.requires _ c.target_named-named.ensures)) ∙ c.if-not-taken_kept.true)
+    c.unmet-then-not-taken_kept.ensures ∙ broken_taken_claim _ _
+    (reachable at.After-is_reachable c.if-not-is_reachable.false) (checked at.After-is_checked c.if-not-is_checked.false)
+    (contained at.After-access_contained c.if-not-access_contained.false) (lands at.After-jumps_to_target c.if-not-jumps_to_target.false)
+    (inside at.After-stays_inside c.if-not-stays_inside.false) (taken at.After-taken_kept c.if-not-taken_kept.true)
 
 pub returns : goal.returns
 unfolding fault_in
 returns c =
     let at = goal.at.returns c in
-    all_kept _ _ (reachable at.Else-not-is_reachable) (checked at.Else-not-is_checked) (contained at.Else-not-access_contained) (lands at.Else-not-jumps_to_target) (inside at.Else-not-stays_inside) (sym (c.taken_kept.ensures _ _ c.requires.instruction_is c.requires.is_known (found_named c.requires _ c.target_named-named.ensures)) ∙ c.if-not-taken_kept.false)
+    all_kept _ _
+    (reachable at.After-is_reachable c.if-not-is_reachable.false) (checked at.After-is_checked c.if-not-is_checked.false)
+    (contained at.After-access_contained c.if-not-access_contained.false) (lands at.After-jumps_to_target c.if-not-jumps_to_target.false)
+    (inside at.After-stays_inside c.if-not-stays_inside.false) (taken at.After-taken_kept c.if-not-taken_kept.false)
