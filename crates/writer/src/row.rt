@@ -79,6 +79,7 @@ fn low_word(to: usize) -> u32
 }
 
 // The row of a decoded instruction; of one that was decoded it decodes to that again.
+#[tactic(auto, unfolding(model::specs::Writer::encoded))]
 pub fn row_of(instruction: Instruction) -> InstructionRow
     ensures { row_of result ≡ encoded instruction }
 {
