@@ -3,21 +3,12 @@ use Prim.Native.Nat.{ℕ, ◌%◌}
 use mathlib.Core.Path.{refl}
 use mathlib.Core.List.{[], ◌∷◌}
 use native.Mathlib.Omega.{arith}
-use lib.ListN.{get_or, length-set}
+use lib.ListN.{get_or}
 use Rattle.model.specs.Words.{low_bytes}
 use Rattle.model.specs.Writer.{row_bytes}
 use Rattle.writer.specs.Rows.{row_of}
 use Rattle.writer.proofs.Storing.{number_behind, four_stored, stored_length}
 use Rattle.writer.proofs.fill.write_row.Goals as goal
-
-pub bounds-buffer-at-2 : goal.bounds-buffer-at-2
-bounds-buffer-at-2 c = simp length-set (omega arith)
-
-pub bounds-buffer-at-3 : goal.bounds-buffer-at-3
-bounds-buffer-at-3 c = simp length-set (omega arith)
-
-pub bounds-buffer-at-4 : goal.bounds-buffer-at-4
-bounds-buffer-at-4 c = simp length-set (omega arith)
 
 pub returns : goal.returns
 unfolding low_bytes

@@ -1,22 +1,13 @@
 -- `writer::fill::write_target` meets its contract: four bytes and the claim are stored one behind the other. Assumes nothing.
 use Prim.Native.Nat.{◌/◌, ◌%◌}
 use native.Mathlib.Omega.{arith}
-use lib.ListN.{get_or, length-set}
+use lib.ListN.{get_or}
 use Rattle.model.specs.Words.{low_bytes}
 use Rattle.model.specs.Writer.{target_bytes}
 use Rattle.writer.specs.Rows.{target_row_of}
 use Rattle.writer.proofs.Storing.{stored_length}
 use Rattle.writer.proofs.Claiming.{claim_behind}
 use Rattle.writer.proofs.fill.write_target.Goals as goal
-
-pub bounds-buffer-at-2 : goal.bounds-buffer-at-2
-bounds-buffer-at-2 c = simp length-set (omega arith)
-
-pub bounds-buffer-at-3 : goal.bounds-buffer-at-3
-bounds-buffer-at-3 c = simp length-set (omega arith)
-
-pub bounds-buffer-at-4 : goal.bounds-buffer-at-4
-bounds-buffer-at-4 c = simp length-set (omega arith)
 
 pub returns : goal.returns
 unfolding low_bytes

@@ -20,7 +20,3 @@ returns-then-row-gt-TOP-3 c = sym (not_bytes _ _ _ _ _ (λ h. omega arith))
 pub returns-then-row-gt-TOP-4 : goal.returns-then-row-gt-TOP-4
 unfolding instruction_of
 returns-then-row-gt-TOP-4 c = sym (not_bytes _ _ _ _ _ (λ h. omega arith))
-
-pub returns : goal.returns
-unfolding instruction_of
-returns c = c.decode.ensures
