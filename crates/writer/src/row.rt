@@ -17,6 +17,7 @@ pub type InstructionRow = [u32; 5];
 const TOP: u32 = 255;
 
 // The instruction that a row decodes to. What does not fit its byte of the file is out of range.
+#[tactic(auto, using(model::proofs::Writer::Rows::not_bytes), unfolding(reader::specs::Decoding::instruction_of))]
 pub fn instruction_of(row: InstructionRow) -> Decoded
     ensures { instruction_of result ≡ decoded (row_of row) }
 {

@@ -5,9 +5,7 @@ use mathlib.Core.List.{[], ◌∷◌}
 use native.Mathlib.Omega.{arith}
 use lib.ListN.{get_or}
 use Rattle.model.specs.Words.{low_bytes}
-use Rattle.model.specs.Writer.{row_bytes}
-use Rattle.writer.specs.Rows.{row_of}
-use Rattle.writer.proofs.Storing.{number_behind, four_stored, stored_length}
+use Rattle.writer.proofs.Storing.{number_behind, four_stored}
 use Rattle.writer.proofs.fill.write_row.Goals as goal
 
 pub returns : goal.returns
@@ -17,7 +15,3 @@ returns c = let entry = c.args in
     let low : ℕ → ℕ = λ i. get_or entry.row i 0 % 256 in
     number_behind 4 _ l entry.at (low 0 ∷ low 1 ∷ low 2 ∷ low 3 ∷ []) (four_stored l entry.at (low 0) (low 1) (low 2) (low 3)) refl
     (omega arith) c.write_u32.ensures
-
-pub shape_of-buffer : goal.shape_of-buffer
-shape_of-buffer c = let entry = c.args in
-    stored_length entry.buffer.now entry.at (row_bytes (row_of entry.row)) (returns c)

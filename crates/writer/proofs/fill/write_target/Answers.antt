@@ -3,9 +3,6 @@ use Prim.Native.Nat.{◌/◌, ◌%◌}
 use native.Mathlib.Omega.{arith}
 use lib.ListN.{get_or}
 use Rattle.model.specs.Words.{low_bytes}
-use Rattle.model.specs.Writer.{target_bytes}
-use Rattle.writer.specs.Rows.{target_row_of}
-use Rattle.writer.proofs.Storing.{stored_length}
 use Rattle.writer.proofs.Claiming.{claim_behind}
 use Rattle.writer.proofs.fill.write_target.Goals as goal
 
@@ -15,7 +12,3 @@ returns c = let entry = c.args in
     let row = entry.row in
     claim_behind entry.buffer.now entry.at (get_or row 0 0 % 256) (get_or row 0 0 / 256 % 256) (get_or row 1 0 % 256) 0
     c.claim_of.ensures (omega arith) c.write_claim.ensures
-
-pub shape_of-buffer : goal.shape_of-buffer
-shape_of-buffer c = let entry = c.args in
-    stored_length entry.buffer.now entry.at (target_bytes (target_row_of entry.row)) (returns c)

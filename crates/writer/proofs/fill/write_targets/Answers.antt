@@ -1,21 +1,17 @@
 -- `writer::fill::write_targets` meets its contract. The loop's invariant: the targets so far are stored. Assumes nothing.
-use mathlib.Core.List.{[], map, flat_map}
+use mathlib.Core.List.{[], map}
 use native.Mathlib.Omega.{arith}
-use lib.ListN.{take, length-map, get_or-map}
+use lib.ListN.{length-map, get_or-map}
 use Rattle.model.specs.File.{tabulate}
 use Rattle.model.specs.Writer.{no_target, target_bytes}
 use Rattle.model.proofs.Writer.Entries.{target_length}
 use Rattle.writer.specs.Rows.{claim_of, target_row_of}
-use Rattle.writer.proofs.Storing.{no_unit, unit_behind, all_units, stored_length}
+use Rattle.writer.proofs.Storing.{no_unit, unit_behind, all_units}
 use Rattle.writer.proofs.fill.write_targets.Goals as goal
 
 pub loop-j-init : goal.loop-j-init
 loop-j-init c = let entry = c.args in
     (omega arith, no_unit 68 target_bytes target_length (map target_row_of entry.targets.now) no_target entry.buffer.now entry.at)
-
-pub write_target-requires : goal.write_target-requires
-write_target-requires c = let entry = c.args in
-    omega (arith, stored_length entry.buffer.now entry.at (flat_map target_bytes (take c.loop-j.j (map target_row_of entry.targets.now))) c.loop-j.invariant.1)
 
 pub loop-j-preserved : goal.loop-j-preserved
 unfolding claim_of tabulate
@@ -31,7 +27,3 @@ returns c = let entry = c.args in
     let rows = entry.targets.now in
     all_units 68 target_bytes target_length (map target_row_of rows) no_target entry.buffer.now entry.at c.loop-j.j
     (omega (arith, length-map rows target_row_of)) c.loop-j.invariant.1
-
-pub shape_of-buffer : goal.shape_of-buffer
-shape_of-buffer c = let entry = c.args in
-    stored_length entry.buffer.now entry.at (flat_map target_bytes (take c.loop-j.j (map target_row_of entry.targets.now))) c.loop-j.invariant.1
