@@ -2,21 +2,9 @@
 use mathlib.Core.Path.{refl}
 use native.Mathlib.Omega.{arith}
 use Rattle.model.specs.Instructions.{shape}
-use Rattle.machine.proofs.Readiness.{small_pc}
 use Rattle.machine.proofs.Arms.{displaced_by, assigned, halted, loaded, stored, jumped, branched, not_branched, checked, denied, jumped_via}
 use Rattle.reader.proofs.Searches.{rising}
 use Rattle.machine.proofs.stepping.execute.Goals as goal
-
-pub guard-requires : goal.guard-requires
-guard-requires c = c.requires.loaded.kept.layout
-
-pub load-requires : goal.load-requires
-load-requires c = let ready = c.requires in
-    record { layout_kept = ready.loaded.kept.layout; pc_bound = small_pc ready }
-
-pub store-requires : goal.store-requires
-store-requires c = let ready = c.requires in
-    record { layout_kept = ready.loaded.kept.layout; pc_bound = small_pc ready; region_len = ready.room }
 
 pub jump-requires : goal.jump-requires
 jump-requires c = rising c.requires.loaded
@@ -39,14 +27,11 @@ returns-in-Set c = assigned c.requires _ c.in-Set.is _ _ _ _ _ _ refl refl c.ass
 
 pub returns-in-Copy : goal.returns-in-Copy
 unfolding shape
-returns-in-Copy c = assigned c.requires _ c.in-Copy.is _ _ _ _ _ _ refl c.get-y.ensures
-    c.assign-in-Copy.ensures
+returns-in-Copy c = assigned c.requires _ c.in-Copy.is _ _ _ _ _ _ refl c.get-y.ensures c.assign-in-Copy.ensures
 
 pub returns-in-Add : goal.returns-in-Add
 unfolding shape
-returns-in-Add c = assigned c.requires _ c.in-Add.is _ _ _ _ _ _ refl
-    (rw (c.sum.ensures, c.get-x.ensures, c.get-y-in-Add.ensures))
-    c.assign-in-Add.ensures
+returns-in-Add c = assigned c.requires _ c.in-Add.is _ _ _ _ _ _ refl (cc) c.assign-in-Add.ensures
 
 pub returns-in-Addi : goal.returns-in-Addi
 unfolding shape
@@ -56,33 +41,23 @@ returns-in-Addi c = assigned c.requires _ c.in-Addi.is _ _ _ _ _ _ refl
 
 pub returns-in-Sub : goal.returns-in-Sub
 unfolding shape
-returns-in-Sub c = assigned c.requires _ c.in-Sub.is _ _ _ _ _ _ refl
-    (rw (c.difference.ensures, c.get-x-in-Sub.ensures, c.get-y-in-Sub.ensures))
-    c.assign-in-Sub.ensures
+returns-in-Sub c = assigned c.requires _ c.in-Sub.is _ _ _ _ _ _ refl (cc) c.assign-in-Sub.ensures
 
 pub returns-in-Andi : goal.returns-in-Andi
 unfolding shape
-returns-in-Andi c = assigned c.requires _ c.in-Andi.is _ _ _ _ _ _ refl
-    (rw (c.bitwise_and.ensures, c.get-x-in-Andi.ensures))
-    c.assign-in-Andi.ensures
+returns-in-Andi c = assigned c.requires _ c.in-Andi.is _ _ _ _ _ _ refl (cc) c.assign-in-Andi.ensures
 
 pub returns-in-Guard : goal.returns-in-Guard
 unfolding shape
-returns-in-Guard c = assigned c.requires _ c.in-Guard.is _ _ _ _ _ _ refl
-    (rw (c.guard.ensures, c.get-x-in-Guard.ensures))
-    c.assign-in-Guard.ensures
+returns-in-Guard c = assigned c.requires _ c.in-Guard.is _ _ _ _ _ _ refl (cc) c.assign-in-Guard.ensures
 
 pub returns-in-Shr : goal.returns-in-Shr
 unfolding shape
-returns-in-Shr c = assigned c.requires _ c.in-Shr.is _ _ _ _ _ _ refl
-    (rw (c.logical_shift.ensures, c.get-x-in-Shr.ensures))
-    c.assign-in-Shr.ensures
+returns-in-Shr c = assigned c.requires _ c.in-Shr.is _ _ _ _ _ _ refl (cc) c.assign-in-Shr.ensures
 
 pub returns-in-Sar : goal.returns-in-Sar
 unfolding shape
-returns-in-Sar c = assigned c.requires _ c.in-Sar.is _ _ _ _ _ _ refl
-    (rw (c.arithmetic_shift.ensures, c.get-x-in-Sar.ensures))
-    c.assign-in-Sar.ensures
+returns-in-Sar c = assigned c.requires _ c.in-Sar.is _ _ _ _ _ _ refl (cc) c.assign-in-Sar.ensures
 
 pub returns-in-Load : goal.returns-in-Load
 returns-in-Load c = loaded c.requires _ _ _ _ _ _ _
