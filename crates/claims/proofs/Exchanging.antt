@@ -1,25 +1,17 @@
 -- Claims exchanged with those of the table, target by target; exchanged twice, the bytes are as they were.
 -- Assumes nothing.
-use Prim.Native.Nat.{ℕ, zero, suc, ◌+◌, ◌≤◌, ◌<◌}
-use mathlib.Core.Path.{◌≡◌, refl, sym, ap, ◌∙◌}
-use mathlib.Core.Bool.{Bool, true, false, cond, true≢false}
-use mathlib.Core.List.{List, [], ◌∷◌}
-use native.Mathlib.Nat.{add-zero, zero-add}
-use native.Mathlib.Numerals.{add-one}
-use native.Mathlib.Omega.{arith}
-use borrow.Author.Count.{below_more}
+use Rattle.std.proofs.Common.{◌≡◌, ℕ, zero, suc, ◌+◌, ◌-◌, ◌≤◌, ◌<◌, Bool, true, false, cond, leb, eqb, List, length, get_or, set, Some, refl, sym, ap, ◌∙◌, add-one, arith, below_more}
+use Rattle.std.proofs.lemmas.List.{get_or-set_same, get_or-set_other}
 use borrow.Author.Tests.{le-leb}
-use lib.Dec.{leb, eqb}
-use lib.ListN.{length, get_or, set, length-set}
-use lib.Seq.{get_or-set_same, get_or-set_other}
 use Rattle.model.specs.declared.Ranges.{Ranges}
 use Rattle.model.specs.declared.Target.{Target}
 use Rattle.model.specs.File.{tabulate, target_start, target_kind, claim_in, target_in}
 use Rattle.model.specs.Claims.{write_ranges, write_claims}
-use Rattle.model.proofs.Tabulate.{length-tabulate, map-tabulate}
-use Rattle.model.proofs.Tests.{by_cond, cond_true}
-use Rattle.model.proofs.Claims.OneClaim.{claim_elsewhere}
+use Rattle.model.proofs.Tabulate.{map-tabulate}
+use Rattle.model.proofs.Tests.{cond_true}
+use Rattle.model.proofs.Claims.OneClaim.{claim_elsewhere, claim_head}
 use Rattle.model.proofs.Claims.AllClaims.{claims_length, claims_head, claims_restored}
+use Rattle.claims.specs.declared.entry.Row.{Row}
 use Rattle.claims.specs.Exchanges.{claim_at, target_with, targets_with, Exchanged}
 
 -- ---- claims, target by target
@@ -32,30 +24,6 @@ claim_in_room j {start} k bytes is-start room is_after =
 
 abbrev written : Target → ℕ → List ℕ → List ℕ
 written t j bytes = cond t.indirect bytes (write_ranges 8 (target_start j) t.claim bytes)
-
--- the last of so many targets is written last
-claims_last : (f : ℕ → Target) (j n : ℕ) (bytes : List ℕ)
-    → write_claims j (tabulate j (suc n) f) bytes ≡ written (f (j + n)) (j + n) (write_claims j (tabulate j n f) bytes)
-unfolding write_claims tabulate
-claims_last f j zero bytes = rw add-zero
-claims_last f j (suc n) bytes =
-    let moved : suc j + n ≡ j + suc n = omega arith in
-    claims_last f (suc j) n (written (f j) j bytes)
-    ∙ ap (λ (m : ℕ). written (f m) m (write_claims j (tabulate j (suc n) f) bytes)) moved
-
-claims_more : (f : ℕ → Target) (n : ℕ) (bytes : List ℕ)
-    → write_claims 0 (tabulate 0 (n + 1) f) bytes ≡ written (f n) n (write_claims 0 (tabulate 0 n f) bytes)
-claims_more f n bytes = rw add-one (claims_last f 0 n bytes ∙ rw zero-add)
-
--- a claim behind all those written is as it was
-claims_behind : (ts : List Target) (j : ℕ) (bytes : List ℕ) (m : ℕ) → j + length ts ≤ m
-    → claim_in (write_claims j ts bytes) m ≡ claim_in bytes m
-unfolding write_claims
-claims_behind [] j bytes m behind = refl
-claims_behind (t ∷ ts) j bytes m behind =
-    claims_behind ts (suc j) (written t j bytes) m (omega arith)
-    ∙ by_cond (λ b. claim_in b m ≡ claim_in bytes m) t.indirect (λ _. refl)
-    (λ _. claim_elsewhere t.claim j bytes m (λ e. omega arith))
 
 -- the claims of direct targets are all that counts
 claims_same : (f g : ℕ → Target) (j n : ℕ) (bytes : List ℕ) → ((m : ℕ) → (f m).indirect ≡ (g m).indirect)
@@ -73,10 +41,9 @@ claims_same f g j (suc n) bytes kind claim =
 
 -- ---- exchanged, and exchanged back
 
-module _ {k : ℕ} {bytes : List ℕ} {lows highs : List (List ℕ)} {bytes' : List ℕ} {lows' highs' : List (List ℕ)}
-    (there : Exchanged k bytes lows highs bytes' lows' highs') where
+module _ {k : ℕ} {bytes : List ℕ} {rows : List Row} {bytes' : List ℕ} {rows' : List Row} (there : Exchanged k bytes rows bytes' rows') where
   abbrev over : List Target
-  over = targets_with k bytes (claim_at lows highs)
+  over = targets_with k bytes rows
 
   pub exchanged_length : length bytes' ≡ length bytes
   exchanged_length = ap length there.written ∙ claims_length over 0 bytes
@@ -84,91 +51,69 @@ module _ {k : ℕ} {bytes : List ℕ} {lows highs : List (List ℕ)} {bytes' : L
   same_kind : (m : ℕ) → eqb (target_kind bytes' m) 1 ≡ eqb (target_kind bytes m) 1
   same_kind m = ap (λ (b : List ℕ). eqb (target_kind b m) 1) there.written ∙ ap (λ (x : ℕ). eqb x 1) (claims_head over 0 bytes m).kind
 
-  same_claim : (m : ℕ) → k ≤ m → claim_in bytes' m ≡ claim_in bytes m
-  same_claim m behind =
-      ap (λ (b : List ℕ). claim_in b m) there.written
-      ∙ claims_behind over 0 bytes m (omega (arith, length-tabulate 0 k (target_with bytes (claim_at lows highs))))
-
-  pub exchanged_back : {bytes'' : List ℕ} {lows'' highs'' : List (List ℕ)} → Exchanged k bytes' lows' highs' bytes'' lows'' highs''
-      → ((i : ℕ) → get_or bytes i 0 < 256) → bytes'' ≡ bytes
+  pub exchanged_back : {bytes'' : List ℕ} {rows'' : List Row} → Exchanged k bytes' rows' bytes'' rows'' → ((i : ℕ) → get_or bytes i 0 < 256) → bytes'' ≡ bytes
   unfolding target_in
   exchanged_back back small =
       back.written
-      ∙ claims_same (target_with bytes' (claim_at lows' highs')) (target_in bytes) 0 k bytes' same_kind
+      ∙ claims_same (target_with bytes' rows') (target_in bytes) 0 k bytes' same_kind
       (λ m below direct. there.came m (omega arith) direct)
       ∙ ap (write_claims 0 (tabulate 0 k (target_in bytes))) there.written
-      ∙ claims_restored bytes small k over (map-tabulate (λ (t : Target). t.indirect) (target_with bytes (claim_at lows highs)) 0 k)
+      ∙ claims_restored bytes small k over (map-tabulate (λ (t : Target). t.indirect) (target_with bytes rows) 0 k)
 
--- ---- the loop: the first j are exchanged, and the table from j on is as it came
-
-pub record Begun (j : ℕ) (bytes : List ℕ) (lows highs : List (List ℕ)) (bytes' : List ℕ) (lows' highs' : List (List ℕ)) : Type 0 where
-  pub done : Exchanged j bytes lows highs bytes' lows' highs'
-  pub still : (m : ℕ) → j ≤ m → claim_at lows' highs' m ≡ claim_at lows highs m
+-- ---- the loop: the first j of k are exchanged, and what is left to be written is as at the start
 
 -- what `came` says of a number
-abbrev Came : List ℕ → List (List ℕ) → List (List ℕ) → ℕ → Type 0
-Came bytes lows highs m = eqb (target_kind bytes m) 1 ≡ false → claim_at lows highs m ≡ claim_in bytes m
+abbrev Came : List ℕ → List Row → ℕ → Type 0
+Came bytes rows m = eqb (target_kind bytes m) 1 ≡ false → claim_at rows m ≡ claim_in bytes m
 
-pub exchange_begins : {bytes : List ℕ} {lows highs : List (List ℕ)} → length lows ≡ 256 → length highs ≡ 256
-    → Begun 0 bytes lows highs bytes lows highs
-unfolding write_claims tabulate
-exchange_begins whole-lows whole-highs = record {
-  done = record { written = refl; lows_whole = whole-lows; highs_whole = whole-highs; came = λ m below. absurd (omega arith) };
-  still = λ m from. refl;
-}
+pub record Begun (k j : ℕ) (bytes : List ℕ) (rows : List Row) (bytes' : List ℕ) (rows' : List Row) : Type 0 where
+  pub rest : write_claims 0 (targets_with k bytes rows) bytes ≡ write_claims j (tabulate j (k - j) (target_with bytes rows)) bytes'
+  pub kind : (m : ℕ) → target_kind bytes' m ≡ target_kind bytes m
+  pub came : (m : ℕ) → m < j → Came bytes rows' m
+  pub still : (m : ℕ) → j ≤ m → (claim_in bytes' m ≡ claim_in bytes m) × (claim_at rows' m ≡ claim_at rows m)
 
-module _ {j : ℕ} {bytes : List ℕ} {lows highs : List (List ℕ)} {bytes' : List ℕ} {lows' highs' : List (List ℕ)}
-    (begun : Begun j bytes lows highs bytes' lows' highs') where
-  -- with the target at hand written
-  one_more : write_claims 0 (targets_with (j + 1) bytes (claim_at lows highs)) bytes
-      ≡ written (target_with bytes (claim_at lows highs) j) j bytes'
-  one_more = rw begun.done.written (claims_more (target_with bytes (claim_at lows highs)) j bytes)
+pub exchange_begins : {k : ℕ} {bytes : List ℕ} {rows : List Row} → Begun k 0 bytes rows bytes rows
+exchange_begins {k} = record { rest = let all : k - 0 ≡ k = omega arith in rw all; kind = λ m. refl; came = λ m below. absurd (omega arith); still = λ m from. (refl, refl) }
 
-  -- an indirect target is left alone
-  pub exchange_passes : eqb (target_kind bytes' j) 1 ≡ true → Begun (j + 1) bytes lows highs bytes' lows' highs'
-  exchange_passes is =
-      let indirect : eqb (target_kind bytes j) 1 ≡ true = sym (same_kind begun.done j) ∙ is in
-      record {
-        done = record {
-          written = sym (one_more ∙ rw indirect);
-          lows_whole = begun.done.lows_whole;
-          highs_whole = begun.done.highs_whole;
-          came = below_more (Came bytes lows' highs') j begun.done.came (λ direct. absurd (true≢false (sym indirect ∙ direct)));
-        };
-        still = λ m from. begun.still m (omega arith);
-      }
+module _ {k j : ℕ} {bytes : List ℕ} {rows : List Row} {bytes' : List ℕ} {rows' : List Row} (begun : Begun k j bytes rows bytes' rows') where
+  pub exchange_ends : k ≤ j → Exchanged k bytes rows bytes' rows'
+  unfolding write_claims tabulate
+  exchange_ends past = record {
+    written = let none : k - j ≡ 0 = omega arith in sym (rw none at begun.rest);
+    came = λ m below. begun.came m (omega arith);
+  }
 
-  -- a direct one is exchanged
-  module _ (is : eqb (target_kind bytes' j) 1 ≡ false) (room : j < 256) (came : Ranges) (is-came : came ≡ claim_in bytes' j) where
-    abbrev lows'' : List (List ℕ)
-    lows'' = set lows' j came.lows
+  module _ (inside : j < k) where
+    one_less : {bytes'' : List ℕ} → bytes'' ≡ written (target_with bytes rows j) j bytes'
+        → write_claims 0 (targets_with k bytes rows) bytes ≡ write_claims (j + 1) (tabulate (j + 1) (k - (j + 1)) (target_with bytes rows)) bytes''
+    unfolding write_claims tabulate
+    one_less is = let left : k - j ≡ suc (k - (j + 1)) = omega arith in rw (is, add-one) (rw (left, add-one) at begun.rest)
 
-    abbrev highs'' : List (List ℕ)
-    highs'' = set highs' j came.highs
-
-    here : claim_at lows'' highs'' j ≡ came
-    here =
-        rw (
-          get_or-set_same lows' j came.lows [] (omega (arith, begun.done.lows_whole)),
-          get_or-set_same highs' j came.highs [] (omega (arith, begun.done.highs_whole)),
-        )
-
-    elsewhere : (m : ℕ) → (m ≡ j → ⊥) → claim_at lows'' highs'' m ≡ claim_at lows' highs' m
-    elsewhere m other = rw (get_or-set_other lows' j m came.lows [] other, get_or-set_other highs' j m came.highs [] other)
-
-    pub exchange_turns : {bytes'' : List ℕ} → bytes'' ≡ write_ranges 8 (target_start j) (claim_at lows' highs' j) bytes'
-        → Begun (j + 1) bytes lows highs bytes'' (set lows' j came.lows) (set highs' j came.highs)
-    exchange_turns is-bytes =
-        let direct : eqb (target_kind bytes j) 1 ≡ false = sym (same_kind begun.done j) ∙ is in
+    -- an indirect target is left alone
+    pub exchange_passes : eqb (target_kind bytes' j) 1 ≡ true → Begun k (j + 1) bytes rows bytes' rows'
+    exchange_passes is =
+        let indirect : eqb (target_kind bytes j) 1 ≡ true = rw begun.kind at is in
         record {
-          done = record {
-            written = is-bytes ∙ rw (begun.still j (omega arith)) (sym (one_more ∙ rw direct));
-            lows_whole = simp length-set begun.done.lows_whole;
-            highs_whole = simp length-set begun.done.highs_whole;
-            came =
-                below_more (Came bytes lows'' highs'') j
-                (λ m below direct. elsewhere m (omega arith) ∙ begun.done.came m below direct)
-                (λ _. here ∙ is-came ∙ same_claim begun.done j (omega arith));
-          };
-          still = λ m from. elsewhere m (omega arith) ∙ begun.still m (omega arith);
+          rest = one_less (rw indirect);
+          kind = begun.kind;
+          came = below_more (Came bytes rows') j begun.came (λ direct. absurd (cc));
+          still = λ m from. begun.still m (omega arith);
+        }
+
+    -- a direct one is exchanged
+    pub exchange_turns : eqb (target_kind bytes' j) 1 ≡ false → j < length rows' → (row : Row) {came : Ranges} → row.claim ≡ Some came → came ≡ claim_in bytes' j
+        → {bytes'' : List ℕ} → bytes'' ≡ write_ranges 8 (target_start j) (claim_at rows' j) bytes' → Begun k (j + 1) bytes rows bytes'' (set rows' j row)
+    exchange_turns is here row is-row is-came is-bytes =
+        let direct : eqb (target_kind bytes j) 1 ≡ false = rw begun.kind at is in
+        record {
+          rest = one_less (is-bytes ∙ rw (direct, (begun.still j (omega arith)).1));
+          kind = λ m. ap (λ (b : List ℕ). target_kind b m) is-bytes ∙ (claim_head (claim_at rows' j) j bytes' m).kind ∙ begun.kind m;
+          came =
+              below_more (Came bytes (set rows' j row)) j
+              (λ m below direct. let other : m ≡ j → ⊥ = omega arith in rw get_or-set_other (begun.came m below direct))
+              (λ _. rw (get_or-set_same, is-row) (is-came ∙ (begun.still j (omega arith)).0));
+          still = λ m from. let other : m ≡ j → ⊥ = omega arith in (
+            ap (λ (b : List ℕ). claim_in b m) is-bytes ∙ claim_elsewhere (claim_at rows' j) j bytes' m other ∙ (begun.still m (omega arith)).0,
+            rw get_or-set_other (begun.still m (omega arith)).1,
+          );
         }

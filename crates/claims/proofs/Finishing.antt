@@ -1,38 +1,29 @@
 -- A file whose worked-out claims are exchanged with those of its targets' bytes, which are lent: it is the finished file, and exchanged
 -- back it is as it came; and what is answered then. Assumes nothing.
-use Prim.Native.Nat.{ℕ, zero, suc, ◌-◌, ◌*◌, ◌≤◌}
-use mathlib.Core.Path.{◌≡◌, refl, sym, ap, ◌∙◌}
-use mathlib.Core.Bool.{Bool, true, false}
-use mathlib.Core.List.{List, ◌++◌, map, append-nil}
-use mathlib.Core.Option.{some, get_or, none-ne-some}
-use native.Mathlib.Omega.{arith}
-use lib.ListN.{length, take, drop, length-append, take-append-drop, drop_of_length-le}
+use Rattle.std.proofs.Common.{◌≡◌, ℕ, ◌-◌, ◌*◌, ◌≤◌, false, List, ◌++◌, map, length, take, drop, Some, sym, ap, ◌∙◌, arith}
+use mathlib.Core.List.{append-nil}
+use lib.ListN.{length-append, take-append-drop, drop_of_length-le}
 use lib.Seq.{length-take-le, take_all, take_at, drop_at}
 use Rattle.model.specs.declared.Layout.{Layout}
-use Rattle.model.specs.declared.Ranges.{Ranges}
 use Rattle.model.specs.declared.Refusal.{Refusal}
 use Rattle.model.specs.declared.Target.{Target}
-use Rattle.model.specs.declared.Verdict.{Verdict}
-use Rattle.model.specs.declared.Verdict.TheVariants as Verdicts
+use Rattle.model.specs.declared.Contents.{Contents}
+use Rattle.std.specs.Prelude.{Result, Ok, Err}
 use Rattle.model.specs.Answers.{judgement_of, fault_of, accepted, refused}
 use Rattle.model.specs.Obligations.{first_fault}
-use Rattle.model.specs.Ranges.{unknown}
-use Rattle.model.specs.File.{value_at, targets_at, code_in, targets_in, tabulate, sweepable, program_of, program_in}
+use Rattle.model.specs.File.{value_at, targets_at, code_in, targets_in, sweepable, program_of, program_in}
 use Rattle.model.specs.Judgement.{judgement}
 use Rattle.model.specs.Claims.{finished, worked_out, with_claims, write_claims, finished_file, after_sweeping, work_out}
 use Rattle.model.specs.Promises.{AreBytes}
 use Rattle.model.proofs.Stretches.{targets_rest, file_length, value_bytes}
-use Rattle.model.proofs.Claims.Each.{All}
-use Rattle.model.proofs.Claims.Sweeping.{Reached}
-use Rattle.model.proofs.Claims.Ending.{ends}
+use Rattle.model.proofs.Tabulate.{map-tabulate}
 use Rattle.model.proofs.Claims.Exchanged.{front}
-use Rattle.model.proofs.Claims.FromFile.{file_fit}
 use Rattle.model.proofs.Claims.Finished.{finished_is}
 use Rattle.model.proofs.Claims.Answering.{judged_answer}
 use Rattle.reader.proofs.Passes.{ReadFacts}
-use Rattle.claims.specs.Rows.{claim_if}
-use Rattle.claims.specs.Tables.{Rows, row_at, entry_in, entries_in}
-use Rattle.claims.specs.Exchanges.{claim_at, target_with, targets_with, Exchanged}
+use Rattle.claims.specs.declared.entry.Row.{Row}
+use Rattle.claims.specs.Tables.{entry_in, entries_in}
+use Rattle.claims.specs.Exchanges.{targets_with, Exchanged}
 use Rattle.claims.proofs.Exchanging.{exchanged_length, exchanged_back}
 
 -- ---- the end of a list, lent
@@ -53,19 +44,11 @@ module _ (first rest whole : List ℕ) (at : ℕ) (is : whole ≡ first ++ rest)
       rw (tail, drop_of_length-le rest long, append-nil part)
       (ap (λ (l : List ℕ). l ++ part) (ap (take at) is ∙ take_at first rest at ends))
 
--- ---- the claims of a table whose targets are all reached
+-- ---- the claims of a table
 
-claim_there : (reached : Bool) (claim : Ranges) {k : Ranges} → claim_if reached claim ≡ some k
-    → get_or (claim_if reached claim) unknown ≡ claim
-claim_there true claim is = refl
-claim_there false claim {k} is = absurd (none-ne-some k is)
-
-finished_rows : (targets : List ℕ) (t : Rows) (i n : ℕ) → All Reached (tabulate i n (entry_in targets t))
-    → map finished (tabulate i n (entry_in targets t)) ≡ tabulate i n (target_with targets (claim_at t.lows t.highs))
-unfolding tabulate row_at
-finished_rows targets t i zero all = refl
-finished_rows targets t i (suc n) all =
-    rw (finished_rows targets t (suc i) n all.1, claim_there (row_at t i).reached (row_at t i).claim all.0.is)
+finished_rows : (targets : List ℕ) (rows : List Row) → map finished (entries_in targets rows) ≡ targets_with (length rows) targets rows
+finished_rows targets rows =
+    map-tabulate finished (entry_in targets rows) 0 (length rows)
 
 -- ---- the file
 
@@ -93,9 +76,9 @@ module _ {file : List ℕ} {l : Layout} {n k : ℕ} (read : ReadFacts false file
   lent_long = omega (arith, ap length lent_targets, read.loaded.targets_whole)
 
   -- a table's claims, exchanged with those of the lent bytes
-  module _ {lows highs : List (List ℕ)} {part : List ℕ} {lows' highs' : List (List ℕ)}
-      (there : Exchanged k (take (length file - start) (drop start file)) lows highs part lows' highs') where
-    there_is : Exchanged k (targets_in file) lows highs part lows' highs'
+  module _ {rows : List Row} {part : List ℕ} {rows' : List Row}
+      (there : Exchanged k (take (length file - start) (drop start file)) rows part rows') where
+    there_is : Exchanged k (targets_in file) rows part rows'
     there_is = rw lent_targets at there
 
     abbrev exchanged : List ℕ
@@ -112,7 +95,7 @@ module _ {file : List ℕ} {l : Layout} {n k : ℕ} (read : ReadFacts false file
 
     module _ (bytes : AreBytes file) where
       -- if they are those worked out, the file is the finished one
-      pub exchanged_finished : targets_with k (targets_in file) (claim_at lows highs) ≡ (with_claims (program_in file)).targets
+      pub exchanged_finished : targets_with k (targets_in file) rows ≡ (with_claims (program_in file)).targets
           → exchanged ≡ finished_file file
       exchanged_finished worked =
           put_is
@@ -120,44 +103,42 @@ module _ {file : List ℕ} {l : Layout} {n k : ℕ} (read : ReadFacts false file
           ∙ sym (finished_is file bytes read.kept)
 
       -- lent again and exchanged back, it is as it came
-      pub exchanged_restored : {part' : List ℕ} {lows'' highs'' : List (List ℕ)}
-          → Exchanged k (take (length exchanged - start) (drop start exchanged)) lows' highs' part' lows'' highs''
+      pub exchanged_restored : {m : ℕ} → m ≡ k → {part' : List ℕ} {rows'' : List Row}
+          → Exchanged m (take (length exchanged - start) (drop start exchanged)) rows' part' rows''
           → take start exchanged ++ (part' ++ drop (length exchanged - start) (drop start exchanged)) ≡ file
-      exchanged_restored {part'} back =
+      exchanged_restored all {part'} back =
+          let again = rw all at back in
           back_is (front file) part exchanged start put_is front_ends part'
           ∙ ap (λ (b : List ℕ). front file ++ b)
-          (exchanged_back there_is (rw lent_again at back) (value_bytes file (targets_at file) 3 bytes))
+          (exchanged_back there_is (rw lent_again at again) (value_bytes file (targets_at file) 3 bytes))
           ∙ sym splits
 
   -- the claims of the table after the sweeps are those worked out
-  pub worked_claims : AreBytes file → (t : Rows)
-      → entries_in (targets_in file) k t ≡ (worked_out (program_of l (code_in file) (targets_in file))).entries
-      → targets_with k (targets_in file) (claim_at t.lows t.highs) ≡ (with_claims (program_in file)).targets
+  pub worked_claims : (rows : List Row) → length rows ≡ k → entries_in (targets_in file) rows ≡ (worked_out (program_of l (code_in file) (targets_in file))).entries
+      → targets_with k (targets_in file) rows ≡ (with_claims (program_in file)).targets
   unfolding with_claims
-  worked_claims bytes t worked =
-      let is : entries_in (targets_in file) k t ≡ (worked_out (program_in file)).entries = rw read.same_layout at worked in
-      sym (finished_rows (targets_in file) t 0 k (rw is (ends (program_in file) (file_fit file bytes read.kept)).reached))
-      ∙ ap (map finished) is
+  worked_claims rows long worked =
+      rw (← long) (sym (finished_rows (targets_in file) rows) ∙ ap (map finished) (rw read.same_layout at worked))
 
   -- ---- what is answered
 
-  module _ (v : Verdict) {judged : List ℕ} (is : judged ≡ finished_file file) (answers : judgement_of v ≡ judgement judged) where
+  module _ (v : Result Contents Refusal) {judged : List ℕ} (is : judged ≡ finished_file file) (answers : judgement_of v ≡ judgement judged) where
     judged_as_lem : judgement (finished_file file) ≡ judgement_of v
     judged_as_lem = ap judgement (sym is) ∙ sym answers
 
-    pub finished_accepted : (i j : ℕ) → v ≡ Verdicts.Accepted i j → record { judgement = judgement_of v; bytes = judged } ≡ work_out file
+    pub finished_accepted : (held : Contents) → v ≡ Ok held → record { judgement = judgement_of v; bytes = judged } ≡ work_out file
     unfolding judgement_of
-    finished_accepted i j accepts =
-        rw (accepts, is) (sym (judged_answer file read.faultless (accepted i j) (judged_as_lem ∙ ap judgement_of accepts)))
+    finished_accepted held accepts =
+        rw (accepts, is) (sym (judged_answer file read.faultless (accepted held.instructions held.targets) (judged_as_lem ∙ ap judgement_of accepts)))
 
-    pub finished_refused : (x : Refusal) → v ≡ Verdicts.Refused x → {after : List ℕ} → after ≡ file
-        → record { judgement = judgement_of (Verdicts.Refused x); bytes = after } ≡ work_out file
+    pub finished_refused : (x : Refusal) → v ≡ Err x → {after : List ℕ} → after ≡ file
+        → record { judgement = judgement_of v; bytes = after } ≡ work_out file
     unfolding judgement_of
     finished_refused x refuses same =
-        rw same (sym (judged_answer file read.faultless (refused (fault_of x)) (judged_as_lem ∙ ap judgement_of refuses)))
+        rw (refuses, same) (sym (judged_answer file read.faultless (refused (fault_of x)) (judged_as_lem ∙ ap judgement_of refuses)))
 
 -- a file that is refused before sweeping
-pub refused_early : (file : List ℕ) (x : Refusal) → first_fault (sweepable file) ≡ some (fault_of x)
-    → record { judgement = judgement_of (Verdicts.Refused x); bytes = file } ≡ work_out file
+pub refused_early : (file : List ℕ) (x : Refusal) → first_fault (sweepable file) ≡ Some (fault_of x)
+    → record { judgement = judgement_of (Err x); bytes = file } ≡ work_out file
 unfolding judgement_of work_out
 refused_early file x found = sym (ap (after_sweeping file) found)

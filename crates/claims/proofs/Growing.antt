@@ -1,82 +1,57 @@
 -- A row that grows: each register's range and growth, register by register, are the definition's. Assumes nothing.
-use Prim.Native.Nat.{ℕ, ◌+◌, ◌≤◌, ◌<◌}
-use mathlib.Core.Path.{◌≡◌, sym, ap}
-use mathlib.Core.Bool.{Bool, true, false, not, ◌||◌}
-use mathlib.Core.List.{[], ◌∷◌}
-use borrow.Author.Tests.{lt-ltb, le-ltb}
-use lib.ListN.{get_or, replicate}
+use Rattle.std.proofs.Common.{◌≡◌, ℕ, ◌+◌, Bool, false, not, ◌||◌, List, map, length, get_or, sym}
+use Rattle.std.proofs.Math.ListN.{get_or-map, length-map}
+use Rattle.std.specs.Prelude.{Some}
 use Rattle.model.specs.declared.Range.{Range}
 use Rattle.model.specs.declared.Ranges.{Ranges}
-use Rattle.model.specs.Ranges.{range_of, anything}
-use Rattle.model.specs.Claims.{within, covering, widened, grow, bit, counted}
-use Rattle.model.proofs.Tabulate.{eight_entries}
+use Rattle.model.specs.Ranges.{range_of}
+use Rattle.model.specs.File.{tabulate}
+use Rattle.model.specs.Claims.{within, widened, grow, bit, counted}
+use Rattle.model.proofs.Tabulate.{tabulate_is}
+use Rattle.claims.specs.declared.entry.Growth.{Growth}
 use Rattle.claims.specs.declared.entry.Row.{Row}
 use Rattle.claims.specs.Rows.{entry_of}
 
-module _ (g : ℕ) (claim x : Range) where
-  pub stays : within x claim ≡ true → claim ≡ widened g claim x
-  unfolding widened
-  stays inside = sym (rw inside)
+abbrev pub none_yet : Growth
+none_yet = record { earlier = 0; now = false }
 
-  pub covers_both : within x claim ≡ false → g < 8 → covering claim x ≡ widened g claim x
-  unfolding widened
-  covers_both outside few = sym (rw (outside, lt-ltb g 8 few))
+abbrev pub nothing : Range
+nothing = record { low = 0; high = 0 }
 
-  pub grows_out : within x claim ≡ false → 8 ≤ g → anything ≡ widened g claim x
-  unfolding widened
-  grows_out outside many = sym (rw (outside, le-ltb g 8 many))
+module _ (row : Row) where
+  abbrev at : ℕ → Growth
+  at r = get_or row.growth r none_yet
 
-module _ (row : Row) (ranges : Ranges) where
-  abbrev widened_at : ℕ → Range
-  widened_at r = widened (get_or row.grown r 0) (range_of row.claim r) (range_of ranges r)
+  earlier_at : (r : ℕ) → get_or (map (λ (g : Growth). g.earlier) row.growth) r 0 ≡ (at r).earlier
+  earlier_at r = get_or-map (λ (g : Growth). g.earlier) row.growth r none_yet
 
-  abbrev grows_at : ℕ → Bool
-  grows_at r = get_or row.grows r false || not (within (range_of ranges r) (range_of row.claim r))
+  now_at : (r : ℕ) → get_or (map (λ (g : Growth). g.now) row.growth) r false ≡ (at r).now
+  now_at r = get_or-map (λ (g : Growth). g.now) row.growth r none_yet
+
+  -- every register counted
+  abbrev pub counted_at : ℕ → Growth
+  counted_at r = record { earlier = (at r).earlier + bit (at r).now; now = false }
+
+  pub counted_row : {growth : List Growth} → growth ≡ tabulate 0 8 counted_at
+      → (i : ℕ) (indirect : Bool) → entry_of i indirect (record { claim = row.claim; growth = growth }) ≡ counted (entry_of i indirect row)
+  unfolding counted tabulate
+  counted_row made i indirect = rw made (simp (earlier_at, now_at))
 
   -- every register widened, and whether it grows
-  pub grown_row : (at : ℕ) (indirect : Bool) {x0 x1 x2 x3 x4 x5 x6 x7 : Range}
-      → x0 ≡ widened_at 0 → x1 ≡ widened_at 1 → x2 ≡ widened_at 2 → x3 ≡ widened_at 3
-      → x4 ≡ widened_at 4 → x5 ≡ widened_at 5 → x6 ≡ widened_at 6 → x7 ≡ widened_at 7
-      → {y0 y1 y2 y3 y4 y5 y6 y7 : Bool} → y0 ≡ grows_at 0 → y1 ≡ grows_at 1 → y2 ≡ grows_at 2 → y3 ≡ grows_at 3
-      → y4 ≡ grows_at 4 → y5 ≡ grows_at 5 → y6 ≡ grows_at 6 → y7 ≡ grows_at 7
-      → entry_of at indirect (record {
-        reached = true;
-        claim = record {
-          lows = x0.low ∷ x1.low ∷ x2.low ∷ x3.low ∷ x4.low ∷ x5.low ∷ x6.low ∷ x7.low ∷ [];
-          highs = x0.high ∷ x1.high ∷ x2.high ∷ x3.high ∷ x4.high ∷ x5.high ∷ x6.high ∷ x7.high ∷ [];
-        };
-        grown = row.grown;
-        grows = y0 ∷ y1 ∷ y2 ∷ y3 ∷ y4 ∷ y5 ∷ y6 ∷ y7 ∷ [];
-      })
-      ≡ grow (entry_of at indirect row) row.claim ranges
-  unfolding grow
-  grown_row at indirect x0 x1 x2 x3 x4 x5 x6 x7 y0 y1 y2 y3 y4 y5 y6 y7 =
-      rw (
-        eight_entries (λ r. (widened_at r).low) (low_of x0) (low_of x1) (low_of x2) (low_of x3) (low_of x4) (low_of x5) (low_of x6) (low_of x7),
-        eight_entries (λ r. (widened_at r).high) (high_of x0) (high_of x1) (high_of x2) (high_of x3) (high_of x4) (high_of x5) (high_of x6) (high_of x7),
-        eight_entries grows_at y0 y1 y2 y3 y4 y5 y6 y7,
-      )
-    where
-      low_of : {x y : Range} → x ≡ y → x.low ≡ y.low
-      low_of e = ap (λ (z : Range). z.low) e
+  module _ (claim ranges : Ranges) where
+    abbrev pub widened_at : ℕ → Range
+    widened_at r = widened (at r).earlier (range_of claim r) (range_of ranges r)
 
-      high_of : {x y : Range} → x ≡ y → x.high ≡ y.high
-      high_of e = ap (λ (z : Range). z.high) e
+    abbrev pub grown_at : ℕ → Growth
+    grown_at r = record { earlier = (at r).earlier; now = (at r).now || not (within (range_of ranges r) (range_of claim r)) }
 
--- every register counted
-module _ (row : Row) where
-  abbrev growth_at : ℕ → ℕ
-  growth_at r = get_or row.grown r 0 + bit (get_or row.grows r false)
-
-  pub counted_row : (at : ℕ) (indirect : Bool) {x0 x1 x2 x3 x4 x5 x6 x7 : ℕ}
-      → x0 ≡ growth_at 0 → x1 ≡ growth_at 1 → x2 ≡ growth_at 2 → x3 ≡ growth_at 3
-      → x4 ≡ growth_at 4 → x5 ≡ growth_at 5 → x6 ≡ growth_at 6 → x7 ≡ growth_at 7
-      → entry_of at indirect (record {
-        reached = row.reached;
-        claim = row.claim;
-        grown = x0 ∷ x1 ∷ x2 ∷ x3 ∷ x4 ∷ x5 ∷ x6 ∷ x7 ∷ [];
-        grows = replicate 8 false;
-      })
-      ≡ counted (entry_of at indirect row)
-  unfolding counted
-  counted_row at indirect x0 x1 x2 x3 x4 x5 x6 x7 = rw (eight_entries growth_at x0 x1 x2 x3 x4 x5 x6 x7)
+    pub grown_row : length row.growth ≡ 8 → {after : List Range} {lows highs : List ℕ} {growth : List Growth} → after ≡ tabulate 0 8 widened_at
+        → lows ≡ tabulate 0 8 (λ r. (get_or after r nothing).low) → highs ≡ tabulate 0 8 (λ r. (get_or after r nothing).high)
+        → growth ≡ tabulate 0 8 grown_at
+        → (i : ℕ) (indirect : Bool) → entry_of i indirect (record { claim = Some (record { lows = lows; highs = highs }); growth = growth })
+        ≡ grow (entry_of i indirect row) claim ranges
+    unfolding grow tabulate
+    grown_row long are_ranges are-lows are_highs grows i indirect =
+        let kept : map (λ (g : Growth). g.earlier) row.growth ≡ tabulate 0 8 (λ r. (at r).earlier) =
+        sym (tabulate_is (λ r. (at r).earlier) 0 8 _ (simp length-map long) (λ r _. sym (earlier_at r))) in
+        rw (are-lows, are_highs, are_ranges, grows) (simp now_at (rw kept))

@@ -1,9 +1,8 @@
 pub mod Growing
-pub mod Placing
-pub mod Searching
 pub mod Filling
-pub mod Arriving
+pub mod Searching
 pub mod Giving
+pub mod Arriving
 pub mod Visiting
 pub mod Sweeping
 pub mod Going

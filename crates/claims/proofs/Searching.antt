@@ -1,14 +1,9 @@
--- A table of entries: what stands at an index is the entry of the target there, and reaching it, giving anything to the lowest
--- unreached one and counting change just the entries that the definitions change. Assumes nothing.
-use Prim.Native.Nat.{ℕ, zero, suc, ◌+◌, ◌≤◌, ◌<◌}
-use mathlib.Core.Path.{◌≡◌, refl, sym, ap, ◌∙◌}
-use mathlib.Core.Bool.{Bool, true, false}
-use mathlib.Core.List.{List, ◌∷◌}
-use mathlib.Core.Option.{Option, none, some, map, none-ne-some}
+-- A table of entries: what stands at an index is the entry of the target there, and reaching it, and giving anything to the lowest
+-- unreached one, change just the entries that the definitions change. Assumes nothing.
+use Rattle.std.proofs.Common.{◌≡◌, ℕ, zero, suc, ◌+◌, ◌≤◌, ◌<◌, Bool, true, false, eqb, List, ◌∷◌, refl, sym, ap, ◌∙◌, arith}
+use Rattle.std.specs.Prelude.{Some, None, option_map}
 use native.Mathlib.Decide.{ℕ_discrete}
-use native.Mathlib.Omega.{arith}
 use borrow.Author.Tests.{eq-eqb, ne_eqb}
-use lib.Dec.{eqb}
 use Rattle.model.specs.declared.Ranges.{Ranges}
 use Rattle.model.specs.declared.Target.{Target}
 use Rattle.model.specs.Program.{target_at}
@@ -17,107 +12,70 @@ use Rattle.model.specs.File.{tabulate}
 use Rattle.model.specs.Claims.{Entry, fresh, entry_at, reached, reach_at, given_or, given}
 use Rattle.model.proofs.Tabulate.{tabulate_same}
 
--- where an index is looked for
-module _ (f : ℕ → Entry) (to : ℕ) where
-  abbrev here_or : Bool → Entry → Option Entry → Option Entry
-  here_or same e rest = elim same [ true ↦ some e | false ↦ rest ]
-
-  one_turn : (from n : ℕ) (same : Bool) → eqb (f from).index to ≡ same
-      → entry_at (tabulate from (suc n) f) to ≡ here_or same (f from) (entry_at (tabulate (suc from) n f) to)
-  unfolding entry_at tabulate
-  one_turn from n same tested = ap (λ (b : Bool). here_or b (f from) (entry_at (tabulate (suc from) n f) to)) tested
-
-  -- no target there, no entry
-  pub entry_missing : (g : ℕ → Target) → ((j : ℕ) → (f j).index ≡ (g j).index) → (from n : ℕ) → target_at (tabulate from n g) to ≡ none
-      → entry_at (tabulate from n f) to ≡ none
-  unfolding target_at entry_at tabulate
-  entry_missing g same from zero missing = refl
-  entry_missing g same from (suc n) missing =
-      by_test (eqb (g from).index to) refl (λ rest. entry_missing g same (suc from) n rest)
+-- what a search through a table comes to, where it stops at number j
+module _ {R : Type 0} (F : List Entry → R) (f : ℕ → Entry) (j : ℕ) (to : ℕ → ℕ → R) where
+  found : ((n : ℕ) → F (tabulate j (suc n) f) ≡ to j (suc n))
+      → ((i n : ℕ) → i < j → F (tabulate (suc i) n f) ≡ to (suc i) n → F (tabulate i (suc n) f) ≡ to i (suc n))
+      → (i n : ℕ) → i ≤ j → j < i + n → F (tabulate i n f) ≡ to i n
+  found here later i zero least most = absurd (omega arith)
+  found here later i (suc n) least most = first_or_later (ℕ_discrete i j) (λ past. found here later (suc i) n past (omega arith))
     where
-      by_test : (t : Bool) → eqb (g from).index to ≡ t
-          → (target_at (tabulate (suc from) n g) to ≡ none → entry_at (tabulate (suc from) n f) to ≡ none)
-          → entry_at (tabulate from (suc n) f) to ≡ none
-      by_test true there rest =
-          absurd (none-ne-some (g from) (sym (sym (ap (λ (b : Bool). elim b [ true ↦ some (g from) | false ↦ target_at (tabulate (suc from) n g) to ]) there) ∙ missing)))
-      by_test false elsewhere rest =
-          one_turn from n false (ap (λ (i : ℕ). eqb i to) (same from) ∙ elsewhere)
-          ∙ rest (sym (ap (λ (b : Bool). elim b [ true ↦ some (g from) | false ↦ target_at (tabulate (suc from) n g) to ]) elsewhere) ∙ missing)
+      first_or_later : Dec (i ≡ j) → (suc i ≤ j → F (tabulate (suc i) n f) ≡ to (suc i) n) → F (tabulate i (suc n) f) ≡ to i (suc n)
+      first_or_later (yes first) rest = rw first (here n)
+      first_or_later (no other) rest = later i n (omega arith) (rest (omega arith))
+
+-- where an index is looked for
+module _ (f : ℕ → Entry) (index : ℕ) where
+  -- no target there, no entry
+  pub entry_missing : (g : ℕ → Target) → ((j : ℕ) → (f j).index ≡ (g j).index) → (i n : ℕ) → target_at (tabulate i n g) index ≡ None
+      → entry_at (tabulate i n f) index ≡ None
+  unfolding target_at entry_at tabulate
+  entry_missing g same i zero missing = refl
+  entry_missing g same i (suc n) missing = by_test (eqb (g i).index index) refl (λ rest. entry_missing g same (suc i) n rest)
+    where
+      by_test : (t : Bool) → eqb (g i).index index ≡ t
+          → (target_at (tabulate (suc i) n g) index ≡ None → entry_at (tabulate (suc i) n f) index ≡ None)
+          → entry_at (tabulate i (suc n) f) index ≡ None
+      by_test true there rest = let none : Some (g i) ≡ None = rw (there, target_at) at missing in absurd (cc)
+      by_test false elsewhere rest = rw (same i, elsewhere, entry_at) (rest (rw (elsewhere, target_at) at missing))
 
   -- the first entry with the index is found, and reached
-  module _ (j : ℕ) (here : (f j).index ≡ to) (before : (i : ℕ) → i < j → (f i).index ≡ to → ⊥) where
-    pub entry_found : (from n : ℕ) → from ≤ j → j < from + n → entry_at (tabulate from n f) to ≡ some (f j)
+  module _ (j : ℕ) (here : (f j).index ≡ index) (before : (i : ℕ) → i < j → (f i).index ≡ index → ⊥) where
+    pub entry_found : (n : ℕ) → j < n → entry_at (tabulate 0 n f) index ≡ Some (f j)
     unfolding entry_at tabulate
-    entry_found from zero least most = absurd (omega arith)
-    entry_found from (suc n) least most =
-        first_or_later (ℕ_discrete from j) (λ later. entry_found (suc from) n later (omega arith))
-      where
-        first_or_later : Dec (from ≡ j) → (suc from ≤ j → entry_at (tabulate (suc from) n f) to ≡ some (f j))
-            → entry_at (tabulate from (suc n) f) to ≡ some (f j)
-        first_or_later (yes first) rest =
-            one_turn from n true (eq-eqb (f from).index to (ap (λ (k : ℕ). (f k).index) first ∙ here)) ∙ ap (λ (k : ℕ). some (f k)) first
-        first_or_later (no other) rest =
-            one_turn from n false (ne_eqb (f from).index to (before from (omega arith))) ∙ rest (omega arith)
+    entry_found n inside =
+        found (λ es. entry_at es index) f j (λ i n. Some (f j))
+        (λ n. rw (eq-eqb (f j).index index here, entry_at))
+        (λ i n below rest. rw (ne_eqb (f i).index index (before i below), entry_at) rest)
+        0 n (omega arith) (omega arith)
 
-    module _ (ranges : Ranges) (g : ℕ → Entry) (now : g j ≡ reached (f j) (f j).claim ranges) (still : (i : ℕ) → (i ≡ j → ⊥) → g i ≡ f i) where
-      abbrev reached_or : Bool → Entry → List Entry → List Entry → List Entry
-      reached_or same e es later = elim same [ true ↦ reached e e.claim ranges ∷ es | false ↦ e ∷ later ]
-
-      reach_turn : (from n : ℕ) (same : Bool) → eqb (f from).index to ≡ same
-          → reach_at (tabulate from (suc n) f) to ranges
-          ≡ reached_or same (f from) (tabulate (suc from) n f) (reach_at (tabulate (suc from) n f) to ranges)
-      unfolding reach_at tabulate
-      reach_turn from n same tested =
-          ap (λ (b : Bool). reached_or b (f from) (tabulate (suc from) n f) (reach_at (tabulate (suc from) n f) to ranges)) tested
-
-      pub entry_reached : (from n : ℕ) → from ≤ j → j < from + n → reach_at (tabulate from n f) to ranges ≡ tabulate from n g
-      unfolding reach_at tabulate
-      entry_reached from zero least most = absurd (omega arith)
-      entry_reached from (suc n) least most =
-          first_or_later (ℕ_discrete from j) (λ later. entry_reached (suc from) n later (omega arith))
-        where
-          first_or_later : Dec (from ≡ j) → (suc from ≤ j → reach_at (tabulate (suc from) n f) to ranges ≡ tabulate (suc from) n g)
-              → reach_at (tabulate from (suc n) f) to ranges ≡ tabulate from (suc n) g
-          first_or_later (yes first) rest =
-              reach_turn from n true (eq-eqb (f from).index to (ap (λ (k : ℕ). (f k).index) first ∙ here))
-              ∙ rw (first, now, tabulate_same f g (suc j) n (λ i after _. sym (still i (omega arith))))
-          first_or_later (no other) rest =
-              reach_turn from n false (ne_eqb (f from).index to (before from (omega arith)))
-              ∙ rw (rest (omega arith), still from other)
+    pub entry_reached : (ranges : Ranges) (g : ℕ → Entry) → g j ≡ reached (f j) (f j).claim ranges → ((i : ℕ) → (i ≡ j → ⊥) → g i ≡ f i)
+        → (n : ℕ) → j < n → reach_at (tabulate 0 n f) index ranges ≡ tabulate 0 n g
+    unfolding reach_at tabulate
+    entry_reached ranges g now still n inside =
+        found (λ es. reach_at es index ranges) f j (λ i n. tabulate i n g)
+        (λ n. rw (eq-eqb (f j).index index here, reach_at, now, tabulate_same f g (suc j) n (λ i after _. sym (still i (omega arith)))))
+        (λ i n below rest. rw (ne_eqb (f i).index index (before i below), reach_at, rest, still i (omega arith)))
+        0 n (omega arith) (omega arith)
 
 -- the lowest unreached target
 module _ (f : ℕ → Entry) where
   abbrev Reached : ℕ → Type 0
-  Reached i = (k : Ranges) × ((f i).claim ≡ some k)
+  Reached i = (k : Ranges) × ((f i).claim ≡ Some k)
 
-  given_turn : (from n : ℕ) (claim : Option Ranges) → (f from).claim ≡ claim
-      → given (tabulate from (suc n) f) ≡ given_or (f from) (tabulate (suc from) n f) claim (given (tabulate (suc from) n f))
+  pub none_unreached : (i n : ℕ) → ((m : ℕ) → m < i + n → Reached m) → given (tabulate i n f) ≡ None
   unfolding given tabulate
-  given_turn from n claim is = ap (λ (c : Option Ranges). given_or (f from) (tabulate (suc from) n f) c (given (tabulate (suc from) n f))) is
+  none_unreached i zero all = refl
+  none_unreached i (suc n) all = rw ((all i (omega arith)).1, given, none_unreached (suc i) n (λ m below. all m (omega arith)))
 
-  pub none_unreached : (from n : ℕ) → ((i : ℕ) → i < from + n → Reached i) → given (tabulate from n f) ≡ none
+  pub lowest_given : (j : ℕ) → (f j).claim ≡ None → ((i : ℕ) → i < j → Reached i)
+      → (g : ℕ → Entry) → g j ≡ fresh (f j).index (f j).indirect (Some unknown) → ((i : ℕ) → (i ≡ j → ⊥) → g i ≡ f i)
+      → (n : ℕ) → j < n → given (tabulate 0 n f) ≡ Some (tabulate 0 n g)
   unfolding given tabulate
-  none_unreached from zero all = refl
-  none_unreached from (suc n) all =
-      let claim = all from (omega arith) in
-      given_turn from n (some claim.0) claim.1
-      ∙ ap (map (λ (es : List Entry). f from ∷ es)) (none_unreached (suc from) n (λ i below. all i (omega arith)))
-
-  module _ (j : ℕ) (unreached : (f j).claim ≡ none) (before : (i : ℕ) → i < j → Reached i) (g : ℕ → Entry)
-      (now : g j ≡ fresh (f j).index (f j).indirect (some unknown)) (still : (i : ℕ) → (i ≡ j → ⊥) → g i ≡ f i) where
-    pub lowest_given : (from n : ℕ) → from ≤ j → j < from + n → given (tabulate from n f) ≡ some (tabulate from n g)
-    unfolding given tabulate
-    lowest_given from zero least most = absurd (omega arith)
-    lowest_given from (suc n) least most =
-        first_or_later (ℕ_discrete from j) (λ later. lowest_given (suc from) n later (omega arith))
-      where
-        first_or_later : Dec (from ≡ j) → (suc from ≤ j → given (tabulate (suc from) n f) ≡ some (tabulate (suc from) n g))
-            → given (tabulate from (suc n) f) ≡ some (tabulate from (suc n) g)
-        first_or_later (yes first) rest =
-            given_turn from n none (rw first unreached)
-            ∙ rw (first, now, tabulate_same f g (suc j) n (λ i after _. sym (still i (omega arith))))
-        first_or_later (no other) rest =
-            let claim = before from (omega arith) in
-            given_turn from n (some claim.0) claim.1
-            ∙ ap (map (λ (es : List Entry). f from ∷ es)) (rest (omega arith))
-            ∙ rw (still from other)
+  lowest_given j unreached before g now still n inside =
+      found given f j (λ i n. Some (tabulate i n g))
+      (λ n. rw (unreached, given, now, tabulate_same f g (suc j) n (λ i after _. sym (still i (omega arith)))))
+      (λ i n below rest.
+      ap (λ claim. given_or (f i) (tabulate (suc i) n f) claim (given (tabulate (suc i) n f))) (before i below).1
+      ∙ ap (option_map (λ es. f i ∷ es)) rest ∙ rw (still i (omega arith)))
+      0 n (omega arith) (omega arith)

@@ -5,5 +5,4 @@
 mod entry;
 mod exchange;
 mod sweep;
-mod table;
 pub mod work_out;

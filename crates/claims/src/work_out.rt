@@ -1,78 +1,35 @@
 // The public entry: the bytes of a module file, whose direct targets' claims are worked out.
-ghost use Rattle.std.specs.Prelude.{◌≡◌, false};
+ghost use Rattle.std.specs.Prelude.{◌≡◌, false, length};
 ghost use Rattle.model.specs.Answers.{judgement_of};
-ghost use Rattle.model.specs.File.{code_in, targets_in, program_of};
+ghost use Rattle.model.specs.File.{code_in, targets_in, instruction_count, layout_in, program_in};
 ghost use Rattle.model.specs.Claims.{worked_out, work_out};
-ghost use Rattle.reader.specs.Readings.{Loaded, holds, reading_by};
-ghost use Rattle.claims.specs.Tables.{rows_now, rows_after, Whole, entries_in};
+ghost use Rattle.reader.specs.Readings.{holds, reading_by};
+ghost use Rattle.claims.specs.Tables.{entries_in};
 
-use crate::table::ROWS;
+use crate::entry::Row;
 use crate::{exchange, sweep};
-use model::{Layout, Verdict};
-use reader::read::Parsed;
+use model::Verdict;
 use reader::{read, target};
 use verifier::verify;
 
-// The sweeps over a file's code, from the claims that the first targets begin with.
-fn sweep_file(
-    file: &[u8],
-    n: u32,
-    k: u32,
-    layout: Layout,
-    reached: &mut [bool; ROWS],
-    lows: &mut [[u32; 8]; ROWS],
-    highs: &mut [[u32; 8]; ROWS],
-    grown: &mut [[u8; 8]; ROWS],
-    grows: &mut [[bool; 8]; ROWS],
-)
-    requires { Loaded layout (code_in file.now) (targets_in file.now) n k × Whole (rows_now reached lows highs grown grows) }
-    ensures { Whole (rows_after reached lows highs grown grows) × (entries_in (targets_in file.now) k (rows_after reached lows highs grown grows) ≡ (worked_out (program_of layout (code_in file.now) (targets_in file.now))).entries) }
-{
-    let targets = read::targets_in(file);
-    sweep::begin(targets, k, reached, lows, highs, grown, grows);
-    sweep::sweep_all(
-        read::code_in(file),
-        n,
-        targets,
-        k,
-        layout,
-        reached,
-        lows,
-        highs,
-        grown,
-        grows,
-    );
-}
+// As many as a module can have targets.
+const ROWS: usize = 256;
 
-// A file that keeps 1 to 6, and 7 but for its claims: they are exchanged for those worked out, and back if the verifier refuses.
-fn finish(file: &mut [u8], n: u32, k: u32, layout: Layout) -> Verdict
-    requires { reading_by false file.old ≡ holds layout n k }
+// A file that keeps 1 to 6, and 7 but for its claims, with the claims that were worked out: they are exchanged for its own, and back if
+// the verifier refuses.
+fn finish(file: &mut [u8], rows: &mut [Row]) -> Verdict
+    requires { (reading_by false file.old ≡ holds (layout_in file.old) (instruction_count (code_in file.old)) (length rows.old)) × (entries_in (targets_in file.old) rows.old ≡ (worked_out (program_in file.old)).entries) }
     ensures { record { judgement = judgement_of result; bytes = file.new } ≡ work_out file.old }
 {
-    let mut reached = [false; ROWS];
-    let mut lows = [[0u32; 8]; ROWS];
-    let mut highs = [[0xFFFF_FFFFu32; 8]; ROWS];
-    let mut grown = [[0u8; 8]; ROWS];
-    let mut grows = [[false; 8]; ROWS];
-    sweep_file(
-        file,
-        n,
-        k,
-        layout,
-        &mut reached,
-        &mut lows,
-        &mut highs,
-        &mut grown,
-        &mut grows,
-    );
-    let start = file.len() - target::TARGET * (k as usize);
-    exchange::exchange(&mut file[start..], k, &mut lows, &mut highs);
-    let verdict = verify::verify(file);
-    if let Verdict::Refused { refusal } = verdict {
-        exchange::exchange(&mut file[start..], k, &mut lows, &mut highs);
-        return Verdict::Refused { refusal };
+    let start = file.len() - target::TARGET * rows.len();
+    exchange::exchange(&mut file[start..], rows);
+    match verify::verify(file) {
+        Ok(held) => Ok(held),
+        Err(refusal) => {
+            exchange::exchange(&mut file[start..], rows);
+            Err(refusal)
+        }
     }
-    verdict
 }
 
 // The verdict on a module's bytes with its direct targets' claims worked out. Accepted, the bytes have these claims; refused, they are
@@ -80,12 +37,10 @@ fn finish(file: &mut [u8], n: u32, k: u32, layout: Layout) -> Verdict
 pub fn work_out(file: &mut [u8]) -> Verdict
     ensures { record { judgement = judgement_of result; bytes = file.new } ≡ work_out file.old }
 {
-    let parsed = read::read_but_claims(file);
-    match parsed {
-        Parsed::Module { reading } => {
-            let layout = reading.layout;
-            finish(file, reading.instructions, reading.targets, layout)
-        }
-        Parsed::Refused { refusal } => Verdict::Refused { refusal },
-    }
+    let module = read::read_but_claims(file)?;
+    let mut table = [Row::fresh(None); ROWS];
+    let rows = &mut table[..module.held.targets as usize];
+    sweep::begin(module.targets, rows);
+    sweep::sweep_all(&module, rows);
+    finish(file, rows)
 }

@@ -20,6 +20,7 @@ fn answer(file: &[u8], text: &mut [u8; line::ROOM]) -> usize
 }
 
 fn main(rt: HostRuntime) -> io::Result<()> {
+    // Fixed memory: the input stands in a buffer with its length beside it, as the line does.
     let mut buffer = [0u8; MOST];
     let n = input::read_full(&mut rt.stdin(), &mut buffer)?;
     let mut text = [0u8; line::ROOM];

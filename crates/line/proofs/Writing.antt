@@ -1,19 +1,15 @@
--- Writing into a buffer: a stored byte is a text of one byte; two texts that were written one after the other are their sum, written at
+-- Writing into a buffer: two texts that were written one after the other are their sum, written at
 -- the first one's place; and so is a number, of its tenth and its last digit. Assumes nothing.
 use Prim.Native.Nat.{ℕ, ◌+◌, ◌/◌, ◌%◌, ◌≤◌, ◌<◌}
-use mathlib.Core.Path.{◌≡◌, refl, sym, ap, ◌∙◌}
+use mathlib.Core.Path.{◌≡◌, sym, ap, ◌∙◌}
 use mathlib.Core.List.{List, [], ◌∷◌, ◌++◌, append_assoc}
 use native.Mathlib.Omega.{arith}
 use native.Mathlib.Nat.{add_assoc}
-use native.Mathlib.Numerals.{add-one}
-use lib.ListN.{length, take, drop, set, length-append}
-use lib.Seq.{length-take-le, drop-drop, take_at, drop_at, append_snoc, set_split}
+use lib.ListN.{length, take, drop, length-append}
+use lib.Seq.{length-take-le, drop-drop, take_at, drop_at}
 use Rattle.model.specs.Line.{digit, decimal}
 use Rattle.model.proofs.Line.{decimal_known}
 use Rattle.line.specs.Wrote.{Wrote}
-
-pub stored : (l : List ℕ) (i byte : ℕ) → i < length l → Wrote l (set l i byte) i (byte ∷ []) (i + 1)
-stored l i byte h = record { ends = refl; buffer = rw (add-one, append_snoc) (set_split l i byte h) }
 
 module _ {a b c s t : List ℕ} {i j k : ℕ} (inside : i ≤ length a) (first : Wrote a b i s j) (second : Wrote b c j t k) where
   front : length (take i a ++ s) ≡ j

@@ -3,7 +3,7 @@
 // Its input here is document 01's loop.
 #![tactic(auto)]
 
-use model::{Completion, Ending, Machine, Steps};
+use model::{Machine, Outcome, Steps};
 use std::io;
 
 // How many bytes of the input are read, at most.
@@ -13,21 +13,8 @@ const OFFSET: usize = 1000;
 
 const BUDGET: Steps = 100_000;
 
-fn wide(x: u32) -> u64 {
-    x as u64
-}
-
-fn print_ending(rt: &impl Print, ending: Ending) -> io::Result<()> {
-    match ending {
-        Ending::Halted => rt.print("halted"),
-        Ending::Trapped => rt.print("trapped"),
-        Ending::Denied => rt.print("denied"),
-        Ending::Violated => rt.print("violated"),
-        Ending::OutOfBudget => rt.print("out of budget"),
-    }
-}
-
 fn main(rt: HostRuntime) -> io::Result<()> {
+    // Fixed memory: the input stands in a buffer with its length beside it.
     let mut buffer = [0u8; MOST];
     let n = input::read_full(&mut rt.stdin(), &mut buffer)?;
     let mut memory = [0u8; 65536];
@@ -35,19 +22,20 @@ fn main(rt: HostRuntime) -> io::Result<()> {
         registers: [0; 8],
         pc: 0,
     };
-    let outcome = machine::value::run(&buffer[..n], start, &mut memory, OFFSET, BUDGET);
-    let answer = outcome.answer;
-    let completion = answer.completion;
-    match completion {
-        Completion::Ended { ending } => print_ending(&rt, ending)?,
-        Completion::Refused { refusal: _ } => rt.print("refused")?,
+    let Outcome { machine, answer } = machine::value::run(
+        &buffer[..n],
+        start,
+        &mut memory,
+        OFFSET,
+        BUDGET,
+    );
+    match answer.completion {
+        Ok(ending) => print!(rt; "{ending}")?,
+        Err(_) => rt.print("refused")?,
     }
-    let steps = answer.steps;
-    let after = outcome.machine;
-    let registers = after.registers;
+    let r1 = machine.registers[1];
     println!(rt;
-        " after {steps} steps, pc {}, r1 {:08x}",
-        after.pc,
-        wide(registers[1])
+        " after {} steps, pc {}, r1 {r1:08x}",
+        answer.steps, machine.pc
     )
 }

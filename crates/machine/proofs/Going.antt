@@ -1,28 +1,36 @@
 -- Where a step goes: to the next index, or to a target that the search found, by the tests of the definitions. Assumes nothing.
-use Rattle.std.specs.Prelude.{◌≡◌, ℕ, ◌+◌, ◌<◌, ◌≤◌, Bool, List}
-use mathlib.Core.Path.{ap}
-use mathlib.Core.Option.{Option}
+use Rattle.std.specs.Prelude.{◌≡◌, ℕ, ◌+◌, ◌-◌, ◌<◌, ◌≤◌, Bool, true, false, eqb, List, Option, None, Some, Ok, Err, MatchOption}
+use Rattle.std.specs.Option.{is_some}
+use mathlib.Core.Path.{refl}
+use native.Mathlib.Omega.{arith}
 use borrow.Author.Tests.{lt-ltb, le-ltb}
 use Rattle.model.specs.declared.Ending.TheVariants.{Violated}
-use Rattle.model.specs.declared.Target.{Target}
-use Rattle.model.specs.Program.{target_at}
 use Rattle.model.specs.Quantifiers.{any_of}
-use Rattle.reader.specs.declared.lookup.Lookup.{Lookup}
-use Rattle.reader.specs.Lookups.{target_found, Rising, Finds}
-use Rattle.machine.specs.declared.places.Next.TheVariants.{To, Ends}
-use Rattle.machine.specs.Core.{first_targets, onward_of}
+use Rattle.model.specs.File.{target_in, target_kind}
+use Rattle.reader.specs.Lookups.{target_found}
+use Rattle.reader.specs.declared.module.Module.{Module}
+use Rattle.machine.specs.Core.{onward_of}
+use Rattle.reader.specs.Readings.{program}
+use Rattle.machine.proofs.Modules.{program_count}
 
-module _ (n pc : ℕ) where
-  pub goes_onward : pc + 1 < n → To (pc + 1) ≡ onward_of n pc
+module _ (m : Module) (pc : ℕ) where
+  pub goes_onward : pc < m.held.instructions - 1 → Ok (pc + 1) ≡ onward_of (program m) pc
   unfolding onward_of
-  goes_onward below = rw (lt-ltb (pc + 1) n below)
+  goes_onward below = rw (program_count m, lt-ltb (pc + 1) m.held.instructions (omega arith))
 
-  pub strays_onward : n ≤ pc + 1 → Ends Violated ≡ onward_of n pc
+  pub strays_onward : m.held.instructions - 1 ≤ pc → Err Violated ≡ onward_of (program m) pc
   unfolding onward_of
-  strays_onward past = rw (le-ltb (pc + 1) n past)
+  strays_onward past = rw (program_count m, le-ltb (pc + 1) m.held.instructions (omega arith))
 
--- what is asked of the target that a search found is asked of the one that the model finds
-pub asked_of_found : {targets : List ℕ} {k to : ℕ} {found : Lookup} → Finds targets k to found → Rising targets k
-    → (other : Lookup) → found ≡ other → (test : Target → Bool)
-    → any_of (target_found targets other) test ≡ any_of (target_at (first_targets targets k) to) test
-asked_of_found finds rises other told test = ap (λ (t : Option Target). any_of t test) (rw told at (finds.rising rises))
+-- that a search found a target, and an indirect one
+pub found_some : (targets : List ℕ) (found : Option ℕ) → is_some found ≡ any_of (target_found targets found) (λ t. true)
+unfolding target_found
+found_some targets None = refl
+found_some targets (Some j) = refl
+
+pub found_indirect : (targets : List ℕ) (found : Option ℕ) (r : Bool) (asked : ℕ → Type 0)
+    → MatchOption found (r ≡ false) asked → ((j : ℕ) → asked j → r ≡ eqb (target_kind targets j) 1)
+    → r ≡ any_of (target_found targets found) (λ t. t.indirect)
+unfolding target_found target_in
+found_indirect targets None r asked is told = is
+found_indirect targets (Some j) r asked is told = told j is

@@ -1,7 +1,7 @@
-pub mod Reaching
+pub mod Modules
 pub mod Going
+pub mod Reaching
 pub mod Settling
-pub mod Readiness
 pub mod Arms
 pub mod Looping
 pub mod Calling

@@ -1,24 +1,21 @@
--- Where the bytes of an access lie, and moving them: each way through the code is the definition's, by its tests, and what lies
--- inside the region fits there. Assumes nothing.
-use Rattle.std.specs.Prelude.{◌≡◌, ℕ, suc, ◌+◌, ◌-◌, ◌%◌, ◌<◌, ◌≤◌, Bool, true, false, cond, ◌&&◌, ltb, leb, List, length, get_or, ℤ}
+-- Where the bytes of an access lie: each way through the code is the definition's, by its tests, and what lies inside the region
+-- fits there. Assumes nothing.
+use Rattle.std.specs.Prelude.{◌≡◌, ℕ, suc, ◌+◌, ◌-◌, ◌%◌, ◌<◌, ◌≤◌, Bool, true, false, cond, ◌&&◌, ltb, leb, List, length, ℤ, Result, Ok, Err}
 use mathlib.Core.Path.{refl, ap, ◌∙◌}
-use native.Mathlib.Nat.{mod-lt, add-zero, sub-zero}
+use native.Mathlib.Nat.{add-zero, sub-zero}
 use native.Mathlib.Omega.{arith}
 use borrow.Author.Tests.{leb-true, le-leb, lt-leb, ltb-true, ltb-false}
-use lib.Bits.{bit_and, and_mask}
 use lib.IntN.{sub_ℕ}
 use Rattle.model.specs.declared.Layout.{Layout}
 use Rattle.model.specs.declared.Width.{Width}
-use Rattle.model.specs.declared.Ending.TheVariants.{Trapped, Violated}
-use Rattle.model.specs.Words.{modulus, wrap, read_bytes}
+use Rattle.model.specs.declared.Ending.{Ending}
+use Rattle.model.specs.Words.{modulus, wrap}
 use Rattle.model.specs.Instructions.{bytes_of}
-use Rattle.model.specs.Step.{in_region, in_zones, Effect, ends, accessing}
 use Rattle.model.specs.Rules.{LayoutKept}
+use Rattle.model.specs.Step.{in_region, in_zones, Effect, ends, accessing}
 use Rattle.model.proofs.Tests.{by_cond, and_left, and_right, same_order}
-use Rattle.model.proofs.Values.{some_size, least_size}
+use Rattle.model.proofs.Values.{least_size}
 use Rattle.model.proofs.Containment.{some_bytes, few_bytes}
-use Rattle.machine.specs.declared.access.Reach.{Reach}
-use Rattle.machine.specs.declared.access.Reach.TheVariants.{Inside, Guarded, Outside}
 use Rattle.machine.specs.Core.{reach_of}
 
 -- ---- the reach of an access, by distances
@@ -64,33 +61,27 @@ from_base l at w inside = leb-true l.base at (and_left _ _ inside)
 -- ---- what is known of an access whose reach is known
 
 -- what comes of an access, by where it lies
-abbrev pub outcome : Reach → Effect → Effect
-outcome (Inside offset) done = done
-outcome Guarded done = ends Trapped
-outcome Outside done = ends Violated
+abbrev pub outcome : Result ℕ Ending → Effect → Effect
+outcome (Ok offset) done = done
+outcome (Err e) done = ends e
 
 module _ (l : Layout) (at : ℕ) (w : Width) where
-  pub access_is : {reach : Reach} → reach_of l at w ≡ reach → (done : Effect) → accessing l at w done ≡ outcome reach done
+  pub access_is : {reach : Result ℕ Ending} → reach_of l at w ≡ reach → (done : Effect) → accessing l at w done ≡ outcome reach done
   unfolding accessing reach_of
-  access_is is done =
-      by_tests (in_region l at (bytes_of w)) (in_zones l at (bytes_of w)) ∙ ap (λ (r : Reach). outcome r done) is
+  access_is is done = by_test (in_region l at (bytes_of w)) _ ∙ ap (λ (r : Result ℕ Ending). outcome r done) is
     where
-      by_tests : (a b : Bool)
-          → cond a done (ends (cond b Trapped Violated)) ≡ outcome (cond a (Inside (at - l.base)) (cond b Guarded Outside)) done
-      by_tests true b = refl
-      by_tests false true = refl
-      by_tests false false = refl
+      by_test : (a : Bool) (e : Ending) → cond a done (ends e) ≡ outcome (cond a (Ok (at - l.base)) (Err e)) done
+      by_test true e = refl
+      by_test false e = refl
 
-  module _ (offset : ℕ) (inside : reach_of l at w ≡ Inside offset) where
+  module _ (offset : ℕ) (inside : reach_of l at w ≡ Ok offset) where
     tested_inside : (in_region l at (bytes_of w) ≡ true) × (offset ≡ at - l.base)
     unfolding reach_of
-    tested_inside = by_tests (in_region l at (bytes_of w)) (in_zones l at (bytes_of w)) inside
+    tested_inside = by_test (in_region l at (bytes_of w)) _ inside
       where
-        by_tests : (a b : Bool) → cond a (Inside (at - l.base)) (cond b Guarded Outside) ≡ Inside offset
-            → (a ≡ true) × (offset ≡ at - l.base)
-        by_tests true b e = (refl, (cc))
-        by_tests false true e = absurd (let impossible : ◌≡◌ {A = ℕ} 0 1 = cc in omega arith)
-        by_tests false false e = absurd (let impossible : ◌≡◌ {A = ℕ} 0 1 = cc in omega arith)
+        by_test : (a : Bool) (e : Ending) → cond a (Ok (at - l.base)) (Err e) ≡ Ok offset → (a ≡ true) × (offset ≡ at - l.base)
+        by_test true x e = (refl, (cc))
+        by_test false x e = absurd (let impossible : ◌≡◌ {A = ℕ} 0 1 = cc in omega arith)
 
     pub offset_is : offset ≡ at - l.base
     offset_is = tested_inside.1
@@ -101,19 +92,3 @@ module _ (l : Layout) (at : ℕ) (w : Width) where
     inside_fits bytes room =
         let stops : leb (at + bytes_of w) (l.base + l.size) ≡ true = and_right (leb l.base at) _ tested_inside.0 in
         omega (arith, offset_is, from_base l at (bytes_of w) tested_inside.0, leb-true (at + bytes_of w) (l.base + l.size) stops)
-
--- ---- moving bytes
-
-pub one_byte : (bytes : List ℕ) (at r : ℕ) → r ≡ get_or bytes at 0 → r ≡ read_bytes 1 bytes at
-unfolding read_bytes
-one_byte bytes at r read = omega arith
-
--- ---- the guard
-
-module _ (l : Layout) (kept : LayoutKept l) (x : ℕ) where
-  -- the size is a power of two, so the mask below it leaves the rest
-  pub masked : bit_and x (l.size - 1) ≡ x % l.size
-  masked = rw kept.power.3 (and_mask x kept.power.0)
-
-  pub guard_fits : l.base + bit_and x (l.size - 1) < modulus
-  guard_fits = omega (arith, masked, mod-lt x (some_size kept), kept.above)

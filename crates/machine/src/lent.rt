@@ -25,9 +25,5 @@ pub fn run(
 pub fn step(file: &[u8], machine: &mut Machine, memory: &mut [u8], offset: usize) -> Answer
     ensures { RunPost file.now machine.old memory.old offset 1 (seen_of result machine.new memory.new) }
 {
-    let budget: Steps = 1;
-    let was = *machine;
-    let out = value::run(file, was, memory, offset, budget);
-    *machine = out.machine;
-    out.answer
+    run(file, machine, memory, offset, 1)
 }

@@ -1,82 +1,50 @@
-// Places: where a step goes, or how it ends the run.
-ghost use Rattle.std.specs.Prelude.{◌≡◌, ◌<◌, if◌then◌else◌};
-ghost use Rattle.model.specs.declared.Ending.TheVariants.{Violated};
+// Places: where a step goes, or how it ends the run. A place is a `usize`: an answer of eight bytes would be packed into one integer,
+// and taken out of it at every step.
+ghost use Rattle.std.specs.Prelude.{◌≡◌};
 ghost use Rattle.model.specs.Program.{is_target, is_indirect};
-ghost use Rattle.reader.specs.Lookups.{Rising};
-ghost use Rattle.machine.specs.declared.places.Next.TheVariants.{To, Ends};
-ghost use Rattle.machine.specs.Core.{first_targets, onward_of, jump_of, jump_via_of};
+ghost use Rattle.machine.specs.Core.{onward_of, jump_of, jump_via_of};
+ghost use Rattle.reader.specs.Readings.{program};
 
 use model::Ending;
-use reader::lookup::Lookup;
+use reader::module::Module;
 use reader::{lookup, target};
 
-#[derive(Clone, Copy)]
-pub(crate) enum Next {
-    To { pc: usize },
-    Ends { ending: Ending },
-}
-
 // "Other steps go to the next index, and stray if that is n."
-pub(crate) fn onward(n: usize, pc: usize) -> Next
-    requires { pc < 65536 }
-    ensures { result ≡ onward_of n pc }
+pub(crate) fn onward(m: &Module, pc: usize) -> Result<usize, Ending>
+    ensures { result ≡ onward_of (program m.now) pc }
 {
-    if pc + 1 < n {
-        Next::To { pc: pc + 1 }
+    let last = (m.held.instructions - 1) as usize;
+    if pc < last {
+        Ok(pc + 1)
     } else {
-        Next::Ends {
-            ending: Ending::Violated,
-        }
+        Err(Ending::Violated)
     }
 }
 
-// To an index that is permitted, else it strays.
-fn land(permitted: bool, to: usize) -> Next
-    ensures { result ≡ (if permitted then To to else Ends Violated) }
+fn is_target(m: &Module, to: usize) -> bool
+    ensures { result ≡ is_target (program m.now).targets to }
 {
-    if permitted {
-        Next::To { pc: to }
-    } else {
-        Next::Ends {
-            ending: Ending::Violated,
-        }
-    }
+    lookup::find(m.targets, m.held.targets, to).is_some()
 }
 
-fn is_target(targets: &[u8], k: u32, to: usize) -> bool
-    requires { Rising targets.now k }
-    ensures { result ≡ is_target (first_targets targets.now k) to }
+pub(crate) fn is_indirect(m: &Module, to: usize) -> bool
+    ensures { result ≡ is_indirect (program m.now).targets to }
 {
-    let found = lookup::find(targets, k, to);
-    match found {
-        Lookup::At { number: _ } => true,
-        Lookup::Nowhere => false,
-    }
+    lookup::find(m.targets, m.held.targets, to).is_some_and(|j| target::is_indirect(m.targets, j))
 }
 
-pub(crate) fn is_indirect(targets: &[u8], k: u32, to: usize) -> bool
-    requires { Rising targets.now k }
-    ensures { result ≡ is_indirect (first_targets targets.now k) to }
+// "A jump or taken branch goes to a door, else it strays." This and the next are two sentences of document 01, a line each.
+#[tactic(auto, unfolding(crate::specs::Core::jump_of))]
+pub(crate) fn jump(m: &Module, to: usize) -> Result<usize, Ending>
+    ensures { result ≡ jump_of (program m.now) to }
 {
-    let found = lookup::find(targets, k, to);
-    match found {
-        Lookup::At { number } => target::kind_of(targets, number) == target::INDIRECT,
-        Lookup::Nowhere => false,
-    }
-}
-
-// "A jump or taken branch goes to a door, else it strays."
-pub(crate) fn jump(targets: &[u8], k: u32, to: usize) -> Next
-    requires { Rising targets.now k }
-    ensures { result ≡ jump_of (first_targets targets.now k) to }
-{
-    land(is_target(targets, k, to), to)
+    is_target(m, to).then_some(to).ok_or(Ending::Violated)
 }
 
 // "A jumpr goes to an open door, else it strays."
-pub(crate) fn jump_via(targets: &[u8], k: u32, to: usize) -> Next
-    requires { Rising targets.now k }
-    ensures { result ≡ jump_via_of (first_targets targets.now k) to }
+#[tactic(auto, unfolding(crate::specs::Core::jump_via_of))]
+pub(crate) fn jump_via(m: &Module, to: usize) -> Result<usize, Ending>
+    ensures { result ≡ jump_via_of (program m.now) to }
 {
-    land(is_indirect(targets, k, to), to)
+    is_indirect(m, to).then_some(to).ok_or(Ending::Violated)
 }

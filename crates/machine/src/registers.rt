@@ -5,17 +5,14 @@ ghost use Rattle.model.specs.Instructions.{reg};
 pub(crate) fn get(registers: &[u32; 8], r: u8) -> u32
     ensures { result ≡ reg registers.now r }
 {
-    let all = &registers[..];
-    let i = r as usize;
-    if i < all.len() { all[i] } else { 0 }
+    registers.get(usize::from(r)).copied().unwrap_or(0)
 }
 
 pub(crate) fn put(registers: &mut [u32; 8], r: u8, value: u32)
     ensures { registers.new ≡ slice_set registers.old r value }
 {
-    let all = &mut registers[..];
-    let i = r as usize;
-    if i < all.len() {
-        all[i] = value;
+    let i = usize::from(r);
+    if i < registers.len() {
+        registers[i] = value;
     }
 }

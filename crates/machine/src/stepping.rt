@@ -1,65 +1,63 @@
 // The core: one step with the registers and the region lent, and the loop of a run over it.
+// Module, pc, registers and region stay apart: a record passed by value from helper to helper costs several copies a step, a struct of
+// the module and the pc alone would be no plainer, since jumps go by the module alone, and document 01 has the part of the memory itself
+// lent to the step, so that its length stands in what is required (a struct that lends it can have no ghost field).
+ghost use Rattle.std.specs.Prelude.{◌≡◌, ◌<◌, length};
 ghost use Rattle.model.specs.Step.{step_of, step};
-ghost use Rattle.model.specs.File.{program_of};
 ghost use Rattle.model.specs.Run.{run};
-ghost use Rattle.machine.specs.Core.{Ready, StepPost, LoopPost};
+ghost use Rattle.machine.specs.Core.{StepPost, LoopPost};
+ghost use Rattle.reader.specs.Readings.{program};
 
 use crate::operations::assign;
-use crate::places::Next;
 use crate::registers::get;
 use crate::{operations, places};
-use model::{Answer, Completion, Ending, Instruction, Layout, Machine, Outcome, Steps};
+use model::{Answer, Ending, Instruction, Machine, Outcome, Steps};
+use reader::module::Module;
 
 // One instruction.
 fn execute(
-    code: &[u8],
-    targets: &[u8],
-    k: u32,
-    layout: Layout,
-    n: usize,
+    m: &Module,
     instruction: Instruction,
     pc: usize,
     registers: &mut [u32; 8],
     region: &mut [u8],
-) -> Next
-    requires { Ready layout code.now targets.now n k pc region.old }
-    ensures { StepPost (step_of (program_of layout code.now targets.now) instruction (record { registers = registers.entry.now; pc = pc }) region.old) result registers.exit.now region.new }
+) -> Result<usize, Ending>
+    requires { length region.old ≡ m.now.layout.size }
+    ensures { StepPost (step_of (program m.now) instruction (record { registers = registers.entry.now; pc = pc }) region.old) result registers.exit.now region.new }
 {
     match instruction {
-        Instruction::Halt => Next::Ends {
-            ending: Ending::Halted,
-        },
-        Instruction::Set { a, imm } => assign(n, pc, registers, a, imm),
+        Instruction::Halt => Err(Ending::Halted),
+        Instruction::Set { a, imm } => assign(m, pc, registers, a, imm),
         Instruction::Copy { a, b } => {
             let y = get(registers, b);
-            assign(n, pc, registers, a, y)
+            assign(m, pc, registers, a, y)
         }
         Instruction::Add { a, b } => {
             let x = get(registers, a);
             let y = get(registers, b);
-            assign(n, pc, registers, a, words::arithmetic::sum(x, y))
+            assign(m, pc, registers, a, words::arithmetic::sum(x, y))
         }
         Instruction::Addi { a, imm } => {
             let x = get(registers, a);
-            assign(n, pc, registers, a, words::arithmetic::displaced(x, imm))
+            assign(m, pc, registers, a, words::arithmetic::displaced(x, imm))
         }
         Instruction::Sub { a, b } => {
             let x = get(registers, a);
             let y = get(registers, b);
-            assign(n, pc, registers, a, words::arithmetic::difference(x, y))
+            assign(m, pc, registers, a, words::arithmetic::difference(x, y))
         }
         Instruction::Andi { a, imm } => {
             let x = get(registers, a);
-            assign(n, pc, registers, a, words::arithmetic::bitwise_and(x, imm))
+            assign(m, pc, registers, a, words::arithmetic::bitwise_and(x, imm))
         }
         Instruction::Guard { a } => {
             let x = get(registers, a);
-            assign(n, pc, registers, a, operations::guard(layout, x))
+            assign(m, pc, registers, a, operations::guard(m, x))
         }
         Instruction::Shr { a, amount } => {
             let x = get(registers, a);
             assign(
-                n,
+                m,
                 pc,
                 registers,
                 a,
@@ -69,7 +67,7 @@ fn execute(
         Instruction::Sar { a, amount } => {
             let x = get(registers, a);
             assign(
-                n,
+                m,
                 pc,
                 registers,
                 a,
@@ -79,117 +77,79 @@ fn execute(
         Instruction::Load { a, b, width, imm } => {
             let y = get(registers, b);
             let address = words::arithmetic::displaced(y, imm);
-            operations::load(layout, n, pc, registers, &region[..], a, width, address)
+            operations::load(m, pc, registers, &region[..], a, width, address)
         }
         Instruction::Store { a, b, width, imm } => {
             let x = get(registers, a);
             let y = get(registers, b);
             let address = words::arithmetic::displaced(y, imm);
-            operations::store(layout, n, pc, region, x, width, address)
+            operations::store(m, pc, region, x, width, address)
         }
-        Instruction::Jump { to } => places::jump(targets, k, to),
+        Instruction::Jump { to } => places::jump(m, to),
         Instruction::Branch { a, b, test, to } => {
             let x = get(registers, a);
             let y = get(registers, b);
             if operations::is_met(test, x, y) {
-                places::jump(targets, k, to)
+                places::jump(m, to)
             } else {
-                places::onward(n, pc)
+                places::onward(m, pc)
             }
         }
         Instruction::Check { a } => {
             let x = get(registers, a);
-            if places::is_indirect(targets, k, x as usize) {
-                places::onward(n, pc)
+            if places::is_indirect(m, x as usize) {
+                places::onward(m, pc)
             } else {
-                Next::Ends {
-                    ending: Ending::Denied,
-                }
+                Err(Ending::Denied)
             }
         }
         Instruction::Jumpr { a } => {
             let x = get(registers, a);
-            places::jump_via(targets, k, x as usize)
+            places::jump_via(m, x as usize)
         }
     }
 }
 
 // One step.
-pub(crate) fn step(
-    code: &[u8],
-    targets: &[u8],
-    k: u32,
-    layout: Layout,
-    n: usize,
-    pc: usize,
-    registers: &mut [u32; 8],
-    region: &mut [u8],
-) -> Next
-    requires { Ready layout code.now targets.now n k pc region.old }
-    ensures { StepPost (step (program_of layout code.now targets.now) (record { registers = registers.entry.now; pc = pc }) region.old) result registers.exit.now region.new }
+fn step(m: &Module, pc: usize, registers: &mut [u32; 8], region: &mut [u8]) -> Result<usize, Ending>
+    requires inside { pc < m.now.held.instructions }
+    requires room { length region.old ≡ m.now.layout.size }
+    ensures { StepPost (step (program m.now) (record { registers = registers.entry.now; pc = pc }) region.old) result registers.exit.now region.new }
 {
-    let instruction = reader::decode::fetch(code, pc as u32);
-    execute(
-        code,
-        targets,
-        k,
-        layout,
-        n,
-        instruction,
-        pc,
-        registers,
-        region,
-    )
+    let instruction = reader::decode::fetch(m.code, pc as u32);
+    execute(m, instruction, pc, registers, region)
 }
 
-// Steps until one ends the run or the budget is used.
-pub(crate) fn run_in(
-    code: &[u8],
-    targets: &[u8],
-    k: u32,
-    layout: Layout,
-    n: usize,
-    machine: Machine,
-    region: &mut [u8],
-    budget: Steps,
-) -> Outcome
-    requires { Ready layout code.now targets.now n k machine.pc region.old }
-    ensures { LoopPost (run (program_of layout code.now targets.now) budget machine region.old) result region.new }
+// A run that ended.
+fn ended(registers: [u32; 8], pc: usize, ending: Ending, steps: Steps) -> Outcome
+    requires { pc < 65536 }
+    ensures { result ≡ record { machine = record { registers = registers; pc = pc }; answer = record { completion = Ok ending; steps = steps } } }
 {
-    let mut registers = machine.registers;
-    let mut pc = machine.pc as usize;
-    let mut made: Steps = 0;
-    while made < budget {
-        let next = step(code, targets, k, layout, n, pc, &mut registers, region);
-        made += 1;
-        match next {
-            Next::To { pc: to } => {
-                pc = to;
-            }
-            Next::Ends { ending } => {
-                return Outcome {
-                    machine: Machine {
-                        registers,
-                        pc: pc as u16,
-                    },
-                    answer: Answer {
-                        completion: Completion::Ended { ending },
-                        steps: made,
-                    },
-                };
-            }
-        }
-    }
     Outcome {
         machine: Machine {
             registers,
             pc: pc as u16,
         },
         answer: Answer {
-            completion: Completion::Ended {
-                ending: Ending::OutOfBudget,
-            },
-            steps: made,
+            completion: Ok(ending),
+            steps,
         },
     }
+}
+
+// Steps until one ends the run or the budget is used.
+pub(crate) fn run_in(m: &Module, machine: Machine, region: &mut [u8], budget: Steps) -> Outcome
+    requires inside { machine.pc < m.now.held.instructions }
+    requires room { length region.old ≡ m.now.layout.size }
+    ensures { LoopPost (run (program m.now) budget machine region.old) result region.new }
+{
+    let mut registers = machine.registers;
+    let mut pc = usize::from(machine.pc);
+    for made in 0..budget {
+        match step(m, pc, &mut registers, region) {
+            Ok(to) => pc = to,
+            Err(ending) => return ended(registers, pc, ending, made + 1),
+        }
+    }
+    ended(registers, pc, Ending::OutOfBudget, budget)
 }

@@ -1,82 +1,31 @@
-// Step and run with the machine by value: it goes in, and comes back in the outcome.
-ghost use Rattle.std.specs.Prelude.{◌≡◌, ℕ, List};
-ghost use Rattle.model.specs.Answers.{fault_of};
-ghost use Rattle.model.specs.Run.{RunPost, unchanged};
-ghost use Rattle.reader.specs.Readings as Readings;
-ghost use Rattle.machine.specs.Core.{seen_of};
+// Step and run with the machine by value: it goes in, and comes back in the outcome. The five arguments are what a host lends.
+ghost use Rattle.model.specs.Run.{RunPost};
+ghost use Rattle.machine.specs.Core.{seen_of, seen_by};
 
 use crate::stepping;
-use model::{Answer, Completion, Machine, Outcome, Refusal, Rule, Steps};
-use reader::read::{Parsed, Reading};
+use model::{Answer, Machine, Outcome, Refusal, Rule, Steps};
 
-// A refusal: no steps, and the machine as it was.
-fn refuse(machine: Machine, refusal: Refusal) -> Outcome
-    ensures { (memory : List ℕ) → seen_of result.answer result.machine memory ≡ unchanged machine memory (fault_of refusal) }
-{
-    Outcome {
-        machine,
-        answer: Answer {
-            completion: Completion::Refused { refusal },
-            steps: 0,
-        },
-    }
-}
-
-// A run of a file that was read: 14, then 15, then the steps.
-fn run_loaded(
+// Refusals 1 to 7, then 14, then 15, then the steps.
+fn run_if_kept(
     file: &[u8],
-    reading: Reading,
     machine: Machine,
     memory: &mut [u8],
     offset: usize,
     budget: Steps,
-) -> Outcome
-    requires { Readings.reading file.now ≡ Readings.holds reading.layout reading.instructions reading.targets }
-    ensures { RunPost file.now machine memory.old offset budget (seen_of result.answer result.machine memory.new) }
+) -> Result<Outcome, Refusal>
+    ensures { RunPost file.now machine memory.old offset budget (seen_by machine result memory.new) }
 {
-    let n = reading.instructions;
-    let layout = reading.layout;
-    let pc = machine.pc;
-    if n <= (pc as u32) {
-        return refuse(
-            machine,
-            Refusal {
-                rule: Rule::BadPc,
-                place: 0,
-            },
-        );
+    let module = reader::read::read(file)?;
+    if module.held.instructions <= u32::from(machine.pc) {
+        return Err(Rule::BadPc.at(0));
     }
-    let size = layout.size as usize;
+    let size = module.layout.size as usize;
     let all = memory.len();
-    if all < size {
-        return refuse(
-            machine,
-            Refusal {
-                rule: Rule::NoRoom,
-                place: 0,
-            },
-        );
-    }
-    if all - size < offset {
-        return refuse(
-            machine,
-            Refusal {
-                rule: Rule::NoRoom,
-                place: 0,
-            },
-        );
+    if all < size || all - size < offset {
+        return Err(Rule::NoRoom.at(0));
     }
     let end = offset + size;
-    stepping::run_in(
-        reader::read::code_in(file),
-        reader::read::targets_in(file),
-        reading.targets,
-        layout,
-        n as usize,
-        machine,
-        &mut memory[offset..end],
-        budget,
-    )
+    Ok(stepping::run_in(&module, machine, &mut memory[offset..end], budget))
 }
 
 // A run of the module in `file`, on the region that begins at `offset` of the memory, with a budget of steps.
@@ -89,10 +38,15 @@ pub fn run(
 ) -> Outcome
     ensures { RunPost file.now machine memory.old offset budget (seen_of result.answer result.machine memory.new) }
 {
-    let parsed = reader::read::read(file);
-    match parsed {
-        Parsed::Module { reading } => run_loaded(file, reading, machine, memory, offset, budget),
-        Parsed::Refused { refusal } => refuse(machine, refusal),
+    match run_if_kept(file, machine, memory, offset, budget) {
+        Ok(outcome) => outcome,
+        Err(refusal) => Outcome {
+            machine,
+            answer: Answer {
+                completion: Err(refusal),
+                steps: 0,
+            },
+        },
     }
 }
 

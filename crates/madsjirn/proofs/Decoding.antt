@@ -6,7 +6,7 @@ use mathlib.Core.Path.{◌≡◌, refl}
 use mathlib.Core.Bool.{cond}
 use mathlib.Core.Logic.{◌⊎◌, ⊎_elim}
 use mathlib.Core.List.{List}
-use mathlib.Core.Option.{Option, none, some}
+use Rattle.std.specs.Prelude.{Option, None, Some}
 use native.Mathlib.Omega.{arith}
 use lib.Dec.{eqb, eqb-suc-zero}
 use Rattle.model.specs.declared.Ending.{Ending}
@@ -61,10 +61,10 @@ reading_carried : (file : List ℕ) → reading_in (module_numbers (reading file
 unfolding reading_by reading_in module_numbers
 reading_carried file = by_fault (first_fault (readable file)) (readable_listed file)
   where
-    by_fault : (o : Option Fault) → ((f : Fault) → o ≡ some f → 1 ≤ f.number)
+    by_fault : (o : Option Fault) → ((f : Fault) → o ≡ Some f → 1 ≤ f.number)
         → reading_in (module_numbers (read_report file o)) ≡ read_report file o
-    by_fault none above = refl
-    by_fault (some f) above = is_refusal f.number _ _ (above f refl)
+    by_fault None above = refl
+    by_fault (Some f) above = is_refusal f.number _ _ (above f refl)
 
 written_carried : (t : Tables) (buffer : List ℕ) → write_report_in (write_numbers (write t buffer).report) ≡ (write t buffer).report
 unfolding write_report_in write_numbers
@@ -96,11 +96,11 @@ report_carried file m memory offset budget =
     size : ℕ
     size = (layout_in file).size
 
-    by_fault : (r : Run) (o : Option Fault) → ((f : Fault) → o ≡ some f → 1 ≤ f.number)
+    by_fault : (r : Run) (o : Option Fault) → ((f : Fault) → o ≡ Some f → 1 ≤ f.number)
         → let seen = unless_refused m memory (finished offset size memory r) o in
         report_in (run_numbers seen.report) ≡ seen.report
-    by_fault r none above = rw (ending_carried r.ending)
-    by_fault r (some f) above = is_refusal f.number _ _ (above f refl)
+    by_fault r None above = rw (ending_carried r.ending)
+    by_fault r (Some f) above = is_refusal f.number _ _ (above f refl)
 
 -- no refusal's number in an answer means that the module is accepted
 pub verdict_passed : (file : List ℕ) → (verdict_numbers (judgement file)).refusal ≡ 0 → IsAccepted (judgement file)

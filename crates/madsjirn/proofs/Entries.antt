@@ -4,10 +4,9 @@
 use Prim.Native.Nat.{ℕ, ◌+◌}
 use mathlib.Core.Path.{◌≡◌, refl, sym, ap, ◌∙◌}
 use mathlib.Core.List.{List, [], ◌∷◌}
-use mathlib.Core.Option.{none}
+use Rattle.std.specs.Prelude.{None, Ok}
 use native.Mathlib.Nat.{mod-eq_of_lt}
 use Rattle.model.specs.declared.Machine.{Machine}
-use Rattle.model.specs.declared.Verdict.TheVariants.{Accepted}
 use Rattle.model.specs.Answers.{accepted, judgement_of}
 use Rattle.model.specs.File.{program_in}
 use Rattle.model.specs.Judgement.{first_broken, concluded, judgement}
@@ -46,22 +45,22 @@ called done = Walk.done
 called (call answered rest) = Walk.call (entry_post answered) (called rest)
 
 -- an accepted file breaks no rule, and neither does one that claims were worked out for
-none_broken : (file : List ℕ) (n k : ℕ) → judgement file ≡ accepted n k → first_broken file ≡ none
+none_broken : (file : List ℕ) (n k : ℕ) → judgement file ≡ accepted n k → first_broken file ≡ None
 unfolding judgement_of
-none_broken file n k is = accepted_means file (Accepted n k) n k (sym is) refl
+none_broken file n k is = accepted_means file (Ok (record { instructions = n; targets = k })) _ (sym is) refl
 
 left_accepted : (came : List ℕ) (n k : ℕ) {file : List ℕ} → file ≡ (work_out came).bytes → (work_out came).judgement ≡ accepted n k
-    → first_broken file ≡ none
+    → first_broken file ≡ None
 left_accepted came n k is accepts = rw is (none_broken (work_out came).bytes n k (worked_out_judged.stands came n k accepts))
 
-let_in : {file : List ℕ} → LetIn file → first_broken file ≡ none
+let_in : {file : List ℕ} → LetIn file → first_broken file ≡ None
 unfolding judgement_of
-let_in {file} (verified v n k meant answered) = accepted_means file v n k meant answered
+let_in {file} (verified v held meant answered) = accepted_means file v held meant answered
 let_in {file} (verified_by_number v numbers zero_number) =
     let passed = verdict_passed file (sym (ap (λ (w : VerdictAnswer). w.refusal) numbers) ∙ zero_number) in
     none_broken file _ _ passed.is
-let_in {file} (worked_out_file came v n k meant answered) =
-    left_accepted came n k (ap (λ (a : Answered). a.bytes) meant) (sym (ap (λ (a : Answered). a.judgement) meant) ∙ ap judgement_of answered)
+let_in {file} (worked_out_file came v held meant answered) =
+    left_accepted came held.instructions held.targets (ap (λ (a : Answered). a.bytes) meant) (sym (ap (λ (a : Answered). a.judgement) meant) ∙ ap judgement_of answered)
 let_in {file} (worked_out_by_number came v left zero_number) =
     let passed = worked_passed came (sym (ap (λ (w : VerdictAnswer). w.refusal) left.numbers) ∙ zero_number) in
     left_accepted came _ _ left.file_is passed.is
@@ -82,7 +81,7 @@ hosted_join = record {
       (rw same at (entry_post both));
 }
 
-let_in_passed : (file : List ℕ) → first_broken file ≡ none → LetIn file
+let_in_passed : (file : List ℕ) → first_broken file ≡ None → LetIn file
 unfolding judgement verdict_numbers
 let_in_passed file passes = verified_by_number (verdict_numbers (judgement file)) refl (ap (λ o. (verdict_numbers (concluded file o)).refusal) passes)
 

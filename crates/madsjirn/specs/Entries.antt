@@ -1,15 +1,14 @@
 -- Demand 3 for whatever a host calls: runs and steps by value, over a lent machine and exported, in any mixture, each by its own
 -- contract, of a module that either verifier accepted, with its own claims or with claims that were worked out; and how such calls join.
 -- Proved in proofs/Entries. Assumes nothing.
-use Rattle.std.specs.Prelude.{ℕ, ◌+◌, ◌^◌, ◌<◌, ◌≡◌, true}
+use Rattle.std.specs.Prelude.{ℕ, ◌+◌, ◌^◌, ◌<◌, ◌≡◌, true, None, Result, Ok}
 use mathlib.Core.List.{List, [], ◌∷◌, Memᴰ}
-use Rattle.std.proofs.Math.Option.{none}
 use Rattle.model.specs.declared.Answer.{Answer}
 use Rattle.model.specs.declared.Ending.TheVariants.{OutOfBudget}
 use Rattle.model.specs.declared.Machine.{Machine}
 use Rattle.model.specs.declared.Outcome.{Outcome}
-use Rattle.model.specs.declared.Verdict.{Verdict}
-use Rattle.model.specs.declared.Verdict.TheVariants.{Accepted}
+use Rattle.model.specs.declared.Contents.{Contents}
+use Rattle.model.specs.declared.Refusal.{Refusal}
 use Rattle.model.specs.Answers.{judgement_of, ended}
 use Rattle.model.specs.Program.{is_indirect}
 use Rattle.model.specs.File.{byte_at, program_in}
@@ -30,9 +29,9 @@ use Rattle.madsjirn.specs.Numbers.{module_numbers, verdict_numbers, run_numbers,
 -- whose refusal is 0; and of the file that they leave, what `claims::work_out::work_out` and `madsjirn_work_out` ensure of theirs:
 -- "Safety covers these modules like any others."
 pub data LetIn (file : List ℕ) : Type 0 where
-  verified : (v : Verdict) (n k : ℕ) → judgement_of v ≡ judgement file → v ≡ Accepted n k → LetIn file
+  verified : (v : Result Contents Refusal) (held : Contents) → judgement_of v ≡ judgement file → v ≡ Ok held → LetIn file
   verified_by_number : (v : VerdictAnswer) → v ≡ verdict_numbers (judgement file) → v.refusal ≡ 0 → LetIn file
-  worked_out_file : (came : List ℕ) (v : Verdict) (n k : ℕ) → record { judgement = judgement_of v; bytes = file } ≡ work_out came → v ≡ Accepted n k → LetIn file
+  worked_out_file : (came : List ℕ) (v : Result Contents Refusal) (held : Contents) → record { judgement = judgement_of v; bytes = file } ≡ work_out came → v ≡ Ok held → LetIn file
   worked_out_by_number : (came : List ℕ) (v : VerdictAnswer) → LeavesFile (work_out came) v file → v.refusal ≡ 0 → LetIn file
 
 -- what a host sees of an exported call: the answer's numbers read back, the machine and the memory
@@ -59,7 +58,7 @@ pub data Hosted (file : List ℕ) : Machine → List ℕ → List Call → List 
 
 -- a module that keeps every rule is let in; and whatever is called, there is something that the exported entries answered and left
 pub record HostedAnswers : Type 0 where
-  pub let_in : (file : List ℕ) → first_broken file ≡ none → LetIn file
+  pub let_in : (file : List ℕ) → first_broken file ≡ None → LetIn file
   pub answers : (file : List ℕ) (m : Machine) (memory : List ℕ) (calls : List Call) → (seen : List Seen) × Hosted file m memory calls seen
 
 -- The numbers lose nothing: of every file, of all tables and of every call the model's answer is read back from the numbers that a host

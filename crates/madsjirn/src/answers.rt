@@ -1,18 +1,17 @@
-// The answers that a host gets, as plain numbers with C's layout. In each, refusal is 0 for none, or else the refusal's number with its
-// place, and what there is nothing to say of is 0.
+// The answers that a host gets, as plain numbers with C's layout: C has no Result and no enum that holds something. In each, refusal is
+// 0 for none, or else the refusal's number with its place, and what there is nothing to say of is 0.
 ghost use Rattle.std.specs.Prelude.{◌≡◌};
 ghost use Rattle.model.specs.Answers.{judgement_of, report_of};
 ghost use Rattle.reader.specs.Readings.{reading_of};
 ghost use Rattle.writer.specs.Reports as Reports;
 ghost use Rattle.madsjirn.specs.Numbers.{module_numbers, verdict_numbers, run_numbers, write_numbers};
 
-use model::{Answer, Completion, Steps, Verdict};
-use reader::read::Parsed;
-use writer::write::Written;
+use model::{Answer, Contents, Layout, Refusal, Steps, Verdict};
+use reader::module::Module;
 
 // Of a module that is read: its layout, and how many instructions and targets it has.
 #[repr(C)]
-#[derive(Clone, Copy)]
+#[derive(Clone, Copy, Default)]
 pub struct ModuleAnswer {
     pub refusal: u32,
     pub place: u32,
@@ -25,7 +24,7 @@ pub struct ModuleAnswer {
 
 // Of a module that is verified: how many instructions and targets it has.
 #[repr(C)]
-#[derive(Clone, Copy)]
+#[derive(Clone, Copy, Default)]
 pub struct VerdictAnswer {
     pub refusal: u32,
     pub place: u32,
@@ -36,7 +35,7 @@ pub struct VerdictAnswer {
 // Of a run: how it ended, 0 to 4 (halted, trapped, denied, violated, out of budget) or 5 where it was refused, and how many steps
 // were made.
 #[repr(C)]
-#[derive(Clone, Copy)]
+#[derive(Clone, Copy, Default)]
 pub struct RunAnswer {
     pub refusal: u32,
     pub place: u32,
@@ -46,7 +45,7 @@ pub struct RunAnswer {
 
 // Of tables that are written: how many bytes the file has.
 #[repr(C)]
-#[derive(Clone, Copy)]
+#[derive(Clone, Copy, Default)]
 pub struct WriteAnswer {
     pub refusal: u32,
     pub place: u32,
@@ -56,105 +55,102 @@ pub struct WriteAnswer {
 // The ending of a refused run.
 const NOT_RUN: u32 = 5;
 
-#[tactic(auto, unfolding(crate::specs::Numbers::module_numbers, reader::specs::Readings::reading_of, model::specs::Answers::fault_of))]
-pub fn module_answer(parsed: Parsed) -> ModuleAnswer
-    ensures { result ≡ module_numbers (reading_of parsed) }
-{
-    match parsed {
-        Parsed::Module { reading } => {
-            let layout = reading.layout;
-            ModuleAnswer {
+impl<'a> From<Result<Module<'a>, Refusal>> for ModuleAnswer {
+    ghost from_gives = { λ read answer. answer ≡ module_numbers (reading_of read) };
+
+    #[tactic(auto, unfolding(crate::specs::Numbers::module_numbers, reader::specs::Readings::reading_of, model::specs::Answers::fault_of))]
+    fn from(read: Result<Module<'a>, Refusal>) -> ModuleAnswer {
+        match read {
+            Ok(module) => {
+                let Layout { base, size, guard } = module.layout;
+                let Contents {
+                    instructions,
+                    targets,
+                } = module.held;
+                ModuleAnswer {
+                    refusal: 0,
+                    place: 0,
+                    base,
+                    size,
+                    guard,
+                    instructions,
+                    targets,
+                }
+            }
+            Err(Refusal { rule, place }) => ModuleAnswer {
+                refusal: u32::from(rule),
+                place,
+                ..ModuleAnswer::default()
+            },
+        }
+    }
+}
+
+impl From<Verdict> for VerdictAnswer {
+    ghost from_gives = { λ verdict answer. answer ≡ verdict_numbers (judgement_of verdict) };
+
+    #[tactic(auto, unfolding(crate::specs::Numbers::verdict_numbers, model::specs::Answers::judgement_of, model::specs::Answers::fault_of))]
+    fn from(verdict: Verdict) -> VerdictAnswer {
+        match verdict {
+            Ok(
+                Contents {
+                    instructions,
+                    targets,
+                },
+            ) => VerdictAnswer {
                 refusal: 0,
                 place: 0,
-                base: layout.base,
-                size: layout.size,
-                guard: layout.guard,
-                instructions: reading.instructions,
-                targets: reading.targets,
-            }
-        }
-        Parsed::Refused { refusal } => {
-            let rule = refusal.rule;
-            ModuleAnswer {
-                refusal: model::rule_number(rule),
-                place: refusal.place,
-                base: 0,
-                size: 0,
-                guard: 0,
-                instructions: 0,
-                targets: 0,
-            }
+                instructions,
+                targets,
+            },
+            Err(Refusal { rule, place }) => VerdictAnswer {
+                refusal: u32::from(rule),
+                place,
+                ..VerdictAnswer::default()
+            },
         }
     }
 }
 
-#[tactic(auto, unfolding(crate::specs::Numbers::verdict_numbers, model::specs::Answers::judgement_of, model::specs::Answers::fault_of))]
-pub fn verdict_answer(verdict: Verdict) -> VerdictAnswer
-    ensures { result ≡ verdict_numbers (judgement_of verdict) }
-{
-    match verdict {
-        Verdict::Accepted {
-            instructions,
-            targets,
-        } => VerdictAnswer {
-            refusal: 0,
-            place: 0,
-            instructions,
-            targets,
-        },
-        Verdict::Refused { refusal } => {
-            let rule = refusal.rule;
-            VerdictAnswer {
-                refusal: model::rule_number(rule),
-                place: refusal.place,
-                instructions: 0,
-                targets: 0,
-            }
-        }
-    }
-}
+impl From<Answer> for RunAnswer {
+    ghost from_gives = { λ answer numbers. numbers ≡ run_numbers (report_of answer) };
 
-#[tactic(auto, unfolding(crate::specs::Numbers::run_numbers, model::specs::Answers::report_of, model::specs::Answers::fault_of))]
-pub fn run_answer(answer: Answer) -> RunAnswer
-    ensures { result ≡ run_numbers (report_of answer) }
-{
-    let completion = answer.completion;
-    match completion {
-        Completion::Ended { ending } => RunAnswer {
-            refusal: 0,
-            place: 0,
-            ending: model::ending_number(ending),
-            steps: answer.steps,
-        },
-        Completion::Refused { refusal } => {
-            let rule = refusal.rule;
-            RunAnswer {
-                refusal: model::rule_number(rule),
-                place: refusal.place,
+    #[tactic(auto, unfolding(crate::specs::Numbers::run_numbers, model::specs::Answers::report_of, model::specs::Answers::fault_of))]
+    fn from(answer: Answer) -> RunAnswer {
+        let Answer { completion, steps } = answer;
+        match completion {
+            Ok(ending) => RunAnswer {
+                refusal: 0,
+                place: 0,
+                ending: u32::from(ending),
+                steps,
+            },
+            Err(Refusal { rule, place }) => RunAnswer {
+                refusal: u32::from(rule),
+                place,
                 ending: NOT_RUN,
-                steps: answer.steps,
-            }
+                steps,
+            },
         }
     }
 }
 
-#[tactic(auto, unfolding(crate::specs::Numbers::write_numbers, writer::specs::Reports::report_of, model::specs::Answers::fault_of))]
-pub fn write_answer(written: Written) -> WriteAnswer
-    ensures { result ≡ write_numbers (Reports.report_of written) }
-{
-    match written {
-        Written::Length { length } => WriteAnswer {
-            refusal: 0,
-            place: 0,
-            length,
-        },
-        Written::Refused { refusal } => {
-            let rule = refusal.rule;
-            WriteAnswer {
-                refusal: model::rule_number(rule),
-                place: refusal.place,
+impl From<Result<u32, Refusal>> for WriteAnswer {
+    ghost from_gives = { λ written answer. answer ≡ write_numbers (Reports.report_of written) };
+
+    #[tactic(auto, unfolding(crate::specs::Numbers::write_numbers, writer::specs::Reports::report_of, model::specs::Answers::fault_of))]
+    fn from(written: Result<u32, Refusal>) -> WriteAnswer {
+        match written {
+            Ok(length) => WriteAnswer {
+                refusal: 0,
+                place: 0,
+                length,
+            },
+            Err(Refusal { rule, place }) => WriteAnswer {
+                refusal: u32::from(rule),
+                place,
                 length: 0,
-            }
+            },
         }
     }
 }

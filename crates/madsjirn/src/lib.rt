@@ -3,7 +3,6 @@
 #![tactic(auto)]
 
 pub mod answers;
-mod hosted;
 
 ghost use Rattle.std.specs.Prelude.{◌≡◌};
 ghost use Rattle.model.specs.Judgement.{judgement};
@@ -24,7 +23,7 @@ use writer::target::TargetRow;
 pub extern "C" fn madsjirn_read(file: &[u8]) -> ModuleAnswer
     ensures { result ≡ module_numbers (reading file.now) }
 {
-    answers::module_answer(reader::read::read(file))
+    ModuleAnswer::from(reader::read::read(file))
 }
 
 // The verdict on a module's bytes: its counts, or the first of refusals 1 to 13.
@@ -32,7 +31,7 @@ pub extern "C" fn madsjirn_read(file: &[u8]) -> ModuleAnswer
 pub extern "C" fn madsjirn_verify(file: &[u8]) -> VerdictAnswer
     ensures { result ≡ verdict_numbers (judgement file.now) }
 {
-    answers::verdict_answer(verifier::verify::verify(file))
+    VerdictAnswer::from(verifier::verify::verify(file))
 }
 
 // The same on a module's bytes with the claims of its direct targets worked out: where it is accepted they hold these claims, and where
@@ -41,7 +40,7 @@ pub extern "C" fn madsjirn_verify(file: &[u8]) -> VerdictAnswer
 pub extern "C" fn madsjirn_work_out(file: &mut [u8]) -> VerdictAnswer
     ensures { LeavesFile (work_out file.old) result file.new }
 {
-    answers::verdict_answer(claims::work_out::work_out(file))
+    VerdictAnswer::from(claims::work_out::work_out(file))
 }
 
 // The file of a layout, a table of instructions and one of targets into the first bytes of the buffer: its length, or the first of
@@ -58,7 +57,7 @@ pub extern "C" fn madsjirn_write(
     ensures { LeavesBuffer (write (tables_of (record { base = base; size = size; guard = guard }) instructions.now targets.now) buffer.old) result buffer.new }
 {
     let layout = Layout { base, size, guard };
-    answers::write_answer(writer::write::write(layout, instructions, targets, buffer))
+    WriteAnswer::from(writer::write::write(layout, instructions, targets, buffer))
 }
 
 // A run of the module in `file` from the machine that is lent, on the region that begins at `offset` of the memory, with a budget
@@ -73,10 +72,8 @@ pub extern "C" fn madsjirn_run(
 ) -> RunAnswer
     ensures { Leaves (run_on file.now machine.old memory.old offset budget) result machine.new memory.new }
 {
-    let was = *machine;
-    let out = hosted::run(file, was, memory, offset, budget);
-    *machine = out.machine;
-    out.answer
+    let answer = machine::lent::run(file, machine, memory, offset, budget);
+    RunAnswer::from(answer)
 }
 
 // A single step: a run with budget 1.
@@ -89,9 +86,5 @@ pub extern "C" fn madsjirn_step(
 ) -> RunAnswer
     ensures { Leaves (run_on file.now machine.old memory.old offset 1) result machine.new memory.new }
 {
-    let budget: Steps = 1;
-    let was = *machine;
-    let out = hosted::run(file, was, memory, offset, budget);
-    *machine = out.machine;
-    out.answer
+    RunAnswer::from(machine::lent::step(file, machine, memory, offset))
 }

@@ -6,7 +6,7 @@ use mathlib.Core.Bool.{Bool}
 use mathlib.Core.Logic.Iff
 use mathlib.Core.Logic.{◌↔◌}
 use mathlib.Core.List.{List}
-use mathlib.Core.Option.{Option, none, some}
+use Rattle.std.specs.Prelude.{Option, None, Some}
 use native.Mathlib.Omega.{arith}
 use lib.ListN.{length}
 use Rattle.model.specs.declared.Instruction.{Instruction}
@@ -72,7 +72,7 @@ module _ {good : ℕ → (ℕ → TargetRow) → ℕ → Bool} {Good : ℕ → (
       (Iff.symm (module_tables Good l code targets))
 
   -- rules 1 to 4 besides
-  pub holds_iff : (file : List ℕ) → (first_fault (readable_by good file) ≡ none) ↔ FileHolds Good file
+  pub holds_iff : (file : List ℕ) → (first_fault (readable_by good file) ≡ None) ↔ FileHolds Good file
   unfolding readable_by is_listed
   holds_iff file = Iff.trans (none_iff_met (readable_by good file)) (λ h. kept h, λ k. met k)
     where
@@ -112,11 +112,11 @@ module _ {good : ℕ → (ℕ → TargetRow) → ℕ → Bool} {Good : ℕ → (
           )
 
 -- rules 1 to 7
-pub readable_iff : (file : List ℕ) → (first_fault (readable file) ≡ none) ↔ FileKept file
+pub readable_iff : (file : List ℕ) → (first_fault (readable file) ≡ None) ↔ FileKept file
 readable_iff = holds_iff target_reflects
 
 -- and these but for the order of claims' ends
-pub sweepable_iff : (file : List ℕ) → (first_fault (sweepable file) ≡ none) ↔ FilePlaced file
+pub sweepable_iff : (file : List ℕ) → (first_fault (sweepable file) ≡ None) ↔ FilePlaced file
 sweepable_iff = holds_iff placed_reflects
 
 -- rules 8 to 13
@@ -128,7 +128,7 @@ verified_iff p = (
 )
 
 -- accepted exactly if every rule is kept
-pub accepted_iff : (file : List ℕ) → (first_broken file ≡ none) ↔ KeepsEveryRule file
+pub accepted_iff : (file : List ℕ) → (first_broken file ≡ None) ↔ KeepsEveryRule file
 unfolding first_broken obligations
 accepted_iff file =
     Iff.trans (append_fault (readable file) (verified (program_in file))) (
@@ -140,18 +140,18 @@ accepted_iff file =
     )
 
 -- a refusal is the first in the listed order: everything judged earlier passes, and it itself fails
-pub refusal_first : (file : List ℕ) (f : Fault) → first_broken file ≡ some f → FirstUnmet (obligations file) f
+pub refusal_first : (file : List ℕ) (f : Fault) → first_broken file ≡ Some f → FirstUnmet (obligations file) f
 unfolding first_broken
 refusal_first file f e = first_unmet (obligations file) f e
 
 -- and so is the refusal of a run: 1 to 7, then 14, then 15
 pub run_refusal_first : (file : List ℕ) (m : Machine) (memory : List ℕ) (offset : ℕ) (f : Fault)
-    → first_fault (runnable file m memory offset) ≡ some f → FirstUnmet (runnable file m memory offset) f
+    → first_fault (runnable file m memory offset) ≡ Some f → FirstUnmet (runnable file m memory offset) f
 run_refusal_first file m memory offset f e = first_unmet (runnable file m memory offset) f e
 
 -- a run is not refused exactly if it has what it asks for
 pub runnable_iff : (file : List ℕ) (m : Machine) (memory : List ℕ) (offset : ℕ)
-    → (first_fault (runnable file m memory offset) ≡ none) ↔ Runnable file m memory offset
+    → (first_fault (runnable file m memory offset) ≡ None) ↔ Runnable file m memory offset
 unfolding runnable
 runnable_iff file m memory offset =
     Iff.trans (append_fault (readable file) _) (

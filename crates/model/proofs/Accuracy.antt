@@ -4,7 +4,8 @@ use Prim.Native.Nat.{ℕ, ◌-◌, ◌<◌}
 use mathlib.Core.Path.{◌≡◌, refl, sym, ◌∙◌, subst}
 use mathlib.Core.Bool.{Bool, true, false, cond}
 use mathlib.Core.List.{List}
-use mathlib.Core.Option.{none, some, some-injective, none-ne-some}
+use Rattle.std.specs.Prelude.{None, Some}
+use Rattle.std.proofs.lemmas.Option.{same_Some, none-some}
 use Rattle.model.specs.declared.Ending.{Ending}
 use Rattle.model.specs.declared.Ending.TheVariants.{Halted, Trapped, Denied, Violated, OutOfBudget}
 use Rattle.model.specs.declared.Layout.{Layout}
@@ -34,17 +35,17 @@ pub record NextAccurate (l : Layout) (ts : List Target) (s : Shape) (k : Ranges)
   pub words : EightWords rs
   pub bytes : Bytes l.size bs
   pub falls : (traits s).falls ≡ true
-  pub checked : (a : ℕ) → (traits s).looks_at ≡ some a → is_indirect ts (reg rs a) ≡ true
+  pub checked : (a : ℕ) → (traits s).looks_at ≡ Some a → is_indirect ts (reg rs a) ≡ true
 
 -- it goes to a named index
 pub record TakenAccurate (s : Shape) (k : Ranges) (rs : List ℕ) (to : ℕ) : Type 0 where
   pub within : Within (after_taken s k) rs
-  pub named : (traits s).names ≡ some to
+  pub named : (traits s).names ≡ Some to
 
 -- it goes to the index in a register
 pub record ViaAccurate (s : Shape) (rs : List ℕ) (to : ℕ) : Type 0 where
   pub register : ℕ
-  pub by : (traits s).goes_by ≡ some register
+  pub by : (traits s).goes_by ≡ Some register
   pub held : to ≡ reg rs register
 
 abbrev violates : Ending → Bool
@@ -65,17 +66,17 @@ Accurate l ts s k rs (ends e) = AccessAllowed l s k → violates e ≡ false
 module _ {l : Layout} (lk : LayoutKept l) (ts : List Target) {k : Ranges} {rs bs : List ℕ}
     (w : Within k rs) (ws : EightWords rs) (bytes : Bytes l.size bs) where
   -- an instruction that goes on and checks nothing
-  goes_on_lem : (s : Shape) (rs' bs' : List ℕ) → (traits s).falls ≡ true → (traits s).looks_at ≡ none
+  goes_on_lem : (s : Shape) (rs' bs' : List ℕ) → (traits s).falls ≡ true → (traits s).looks_at ≡ None
       → Within (after_next (region_range l) s k) rs' → EightWords rs' → Bytes l.size bs' → NextAccurate l ts s k rs' bs'
   goes_on_lem s rs' bs' f unchecked within' words' bytes' = record {
     within = within';
     words = words';
     bytes = bytes';
     falls = f;
-    checked = λ a e. absurd (none-ne-some a (sym unchecked ∙ e));
+    checked = λ a e. absurd (none-some a (sym unchecked ∙ e));
   }
 
-  access_accurate : (s : Shape) (a : ℕ) (ac : Access) (done : Effect) → SoundAccess a ac → (traits s).access ≡ some ac
+  access_accurate : (s : Shape) (a : ℕ) (ac : Access) (done : Effect) → SoundAccess a ac → (traits s).access ≡ Some ac
       → (in_region l (address ac rs) (bytes_of ac.width) ≡ true → Accurate l ts s k rs done)
       → Accurate l ts s k rs (accessing l (address ac rs) ac.width done)
   unfolding accessing
@@ -127,7 +128,7 @@ module _ {l : Layout} (lk : LayoutKept l) (ts : List Target) {k : Ranges} {rs bs
         words = ws;
         bytes = bytes;
         falls = refl;
-        checked = λ b e. rw (sym (some-injective a b e)) t;
+        checked = λ b e. rw (sym (same_Some a b e)) t;
       })
       (λ _ allowed. refl)
   effect_accurate (jumps_via a) sound = record { register = a; by = refl; held = refl }

@@ -3,7 +3,7 @@ use Prim.Native.Nat.{ℕ, zero, suc, ◌+◌}
 use mathlib.Core.Path.{◌≡◌, refl}
 use mathlib.Core.Logic.Iff
 use mathlib.Core.Logic.{◌↔◌}
-use mathlib.Core.Option.{some}
+use Rattle.std.specs.Prelude.{Some}
 use native.Mathlib.Omega.{arith}
 use lib.IntN.{ℤ}
 use lib.ListN.{length}
@@ -66,7 +66,7 @@ within_reflects k claim = all_below_reflects 8 (λ r. and_reflects (le_reflects 
 
 module _ (p : Program) where
   meets_reflects : (to : ℕ) (k : Ranges)
-      → Reflects (meets_claim p to k) ((t : Target) → target_at p.targets to ≡ some t → LiesWithin k t.claim)
+      → Reflects (meets_claim p to k) ((t : Target) → target_at p.targets to ≡ Some t → LiesWithin k t.claim)
   meets_reflects to k = all_of_reflects (target_at p.targets to) (λ t. within_reflects k t.claim)
 
   taken_reflects : (i : ℕ) → Reflects (taken_kept p i) (TakenKept p i)

@@ -3,7 +3,7 @@
 use Prim.Native.Nat.{ℕ, zero, suc, ◌+◌, ◌^◌, ◌≤◌, ◌<◌}
 use mathlib.Core.Path.{◌≡◌, sym, ap, ◌∙◌}
 use mathlib.Core.List.{List}
-use mathlib.Core.Option.{Option, none, some}
+use Rattle.std.specs.Prelude.{Option, None, Some}
 use native.Mathlib.Nat.{mod-eq_of_lt}
 use native.Mathlib.Omega.{arith}
 use Rattle.model.specs.declared.Ending.{Ending}
@@ -22,8 +22,8 @@ use Rattle.model.proofs.JoiningCalls.{joining_calls}
 -- a step, and the steps of the rest
 followed_within : (s : Step) (rest : Run) (budget : ℕ) (ending : Option Ending) → steps rest ≤ budget
     → steps (followed s rest ending) ≤ suc budget
-followed_within s rest budget none few = omega arith
-followed_within s rest budget (some e) few = omega arith
+followed_within s rest budget None few = omega arith
+followed_within s rest budget (Some e) few = omega arith
 
 steps_within : (p : Program) (budget : ℕ) (m : Machine) (bs : List ℕ) → steps (run p budget m bs) ≤ budget
 unfolding run
@@ -42,8 +42,8 @@ module _ (file : List ℕ) (m : Machine) (memory : List ℕ) (offset : ℕ) wher
 
       by_fault : (o : Option Fault)
           → steps_in (unless_refused m memory (finished offset (layout_in file).size memory whole) o).report ≤ budget
-      by_fault none = steps_within (program_in file) budget m (stretch offset (layout_in file).size memory)
-      by_fault (some f) = omega arith
+      by_fault None = steps_within (program_in file) budget m (stretch offset (layout_in file).size memory)
+      by_fault (Some f) = omega arith
 
   -- a count that fits is as it was
   count_kept : (bits : ℕ) (r : Report) → steps_in r < 2 ^ bits → count_in bits r ≡ r

@@ -3,8 +3,7 @@ use Prim.Native.Nat.{ℕ, zero, suc, ◌+◌, ◌<◌}
 use mathlib.Core.Path.{◌≡◌, refl}
 use mathlib.Core.Bool.{Bool, true, false}
 use mathlib.Core.List.{List, [], ◌∷◌}
-use mathlib.Core.Option
-use mathlib.Core.Option.{Option, none, some, map}
+use Rattle.std.specs.Prelude.{option_map, unwrap_or, Option, None, Some}
 use lib.ListN.{get_or}
 use Rattle.model.specs.declared.Instruction.{Instruction}
 use Rattle.model.specs.declared.Instruction.TheVariants.{Halt}
@@ -24,7 +23,7 @@ pub data NumberedRows : (ℕ → Instruction → Type 0) → List (Option Instru
       → IfThere (P 0) row → NumberedRows (λ op. P (suc op)) more → NumberedRows P (row ∷ more)
 
 pub row_at : {P : ℕ → Instruction → Type 0} {table : List (Option Instruction)} → NumberedRows P table → (op : ℕ)
-    → IfThere (P op) (get_or table op none)
+    → IfThere (P op) (get_or table op None)
 row_at no_more op = tt
 row_at (row then more) zero = row
 row_at (row then more) (suc op) = row_at more op
@@ -38,13 +37,13 @@ module _ (P : Instruction → Type 0) where
   provided_row true row holds = holds refl
   provided_row false row holds = tt
 
-  pub mapped_row : {A : Type 0} (f : A → Instruction) (o : Option A) → ((x : A) → P (f x)) → IfThere P (map f o)
-  mapped_row f none holds = tt
-  mapped_row f (some x) holds = holds x
+  pub mapped_row : {A : Type 0} (f : A → Instruction) (o : Option A) → ((x : A) → P (f x)) → IfThere P (option_map f o)
+  mapped_row f None holds = tt
+  mapped_row f (Some x) holds = holds x
 
-  or_halt : P Halt → (o : Option Instruction) → IfThere P o → P (Option.get_or o Halt)
-  or_halt halt none holds = halt
-  or_halt halt (some i) holds = holds
+  or_halt : P Halt → (o : Option Instruction) → IfThere P o → P (unwrap_or o Halt)
+  or_halt halt None holds = halt
+  or_halt halt (Some i) holds = holds
 
   -- imm is of four bytes; past the last instruction is a halt
   module _ (each_row : (a b w imm : ℕ) → imm < modulus → Rows P (rows a b w imm)) (halt : P Halt)
@@ -57,5 +56,5 @@ module _ (P : Instruction → Type 0) where
     pub code_holds : (l : Layout) (targets : List ℕ) (j : ℕ) → P (code_at (program_of l code targets) j)
     unfolding program_of
     code_holds l targets =
-        tabulate_everywhere P (λ i. Option.get_or (instruction_in code i) Halt) Halt
+        tabulate_everywhere P (λ i. unwrap_or (instruction_in code i) Halt) Halt
         (λ i. or_halt halt (instruction_in code i) (instruction_holds i)) halt 0 (instruction_count code)

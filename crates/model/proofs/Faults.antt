@@ -4,7 +4,7 @@ use Prim.Native.Nat.{ℕ, suc, ◌+◌, ◌-◌, ◌≤◌, ◌<◌}
 use mathlib.Core.Path.{◌≡◌, refl, ap, ◌∙◌}
 use mathlib.Core.Bool.{Bool, true, false}
 use mathlib.Core.List.{List, [], ◌∷◌, ◌++◌}
-use mathlib.Core.Option.{Option, none, some}
+use Rattle.std.specs.Prelude.{Option, None, Some}
 use native.Mathlib.Omega.{arith}
 use native.Mathlib.Nat.{sub-zero}
 use native.Mathlib.Numerals.{add-one}
@@ -16,19 +16,19 @@ module _ (o : Obligation) (os : List Obligation) where
   unfolding first_fault
   head_met met = rw met
 
-  pub head_unmet : o.met ≡ false → first_fault (o ∷ os) ≡ some o.fault
+  pub head_unmet : o.met ≡ false → first_fault (o ∷ os) ≡ Some o.fault
   unfolding first_fault
   head_unmet unmet = rw unmet
 
 -- one obligation by itself (`head_unmet` has the other case)
-pub one_met : (o : Obligation) → o.met ≡ true → first_fault (o ∷ []) ≡ none
+pub one_met : (o : Obligation) → o.met ≡ true → first_fault (o ∷ []) ≡ None
 unfolding first_fault
 one_met o met = head_met o [] met
 
 -- of two lists, the first one's fault if it has any
 earlier : Option Fault → Option Fault → Option Fault
-earlier none later = later
-earlier (some f) later = some f
+earlier None later = later
+earlier (Some f) later = Some f
 
 append_earlier : (xs ys : List Obligation) → first_fault (xs ++ ys) ≡ earlier (first_fault xs) (first_fault ys)
 unfolding first_fault earlier
@@ -43,11 +43,11 @@ append_earlier (x ∷ xs) ys =
     behind false = refl
 
 module _ (xs ys : List Obligation) where
-  pub append_faultless : first_fault xs ≡ none → first_fault (xs ++ ys) ≡ first_fault ys
+  pub append_faultless : first_fault xs ≡ None → first_fault (xs ++ ys) ≡ first_fault ys
   unfolding earlier
   append_faultless faultless = append_earlier xs ys ∙ rw faultless
 
-  pub append_faulty : (f : Fault) → first_fault xs ≡ some f → first_fault (xs ++ ys) ≡ some f
+  pub append_faulty : (f : Fault) → first_fault xs ≡ Some f → first_fault (xs ++ ys) ≡ Some f
   unfolding earlier
   append_faulty f faulty = append_earlier xs ys ∙ rw faulty
 
@@ -59,14 +59,14 @@ module _ (g : ℕ → List Obligation) (i n : ℕ) where
       let left : n - i ≡ suc (n - (i + 1)) = omega arith in
       rw (left, add-one i)
 
-  pub index_faultless : i < n → first_fault (g i) ≡ none
+  pub index_faultless : i < n → first_fault (g i) ≡ None
       → first_fault (each_from i (n - i) g) ≡ first_fault (each_from (i + 1) (n - (i + 1)) g)
   index_faultless below faultless = ap first_fault (here_and_later below) ∙ append_faultless _ _ faultless
 
-  pub index_faulty : (f : Fault) → i < n → first_fault (g i) ≡ some f → first_fault (each_from i (n - i) g) ≡ some f
+  pub index_faulty : (f : Fault) → i < n → first_fault (g i) ≡ Some f → first_fault (each_from i (n - i) g) ≡ Some f
   index_faulty f below faulty = ap first_fault (here_and_later below) ∙ append_faulty _ _ f faulty
 
-  pub indexes_done : n ≤ i → first_fault (each_from i (n - i) g) ≡ none
+  pub indexes_done : n ≤ i → first_fault (each_from i (n - i) g) ≡ None
   unfolding first_fault each_from
   indexes_done done =
       let none_left : n - i ≡ 0 = omega arith in

@@ -5,7 +5,8 @@ use mathlib.Core.Logic.Iff
 use mathlib.Core.Logic.{◌↔◌}
 use mathlib.Core.Bool.{false≢true}
 use mathlib.Core.List.{List}
-use mathlib.Core.Option.{Option, none, some, none-ne-some}
+use Rattle.std.specs.Prelude.{Option, None, Some}
+use Rattle.std.proofs.lemmas.Option.{none-some}
 use native.Mathlib.Omega.{arith}
 use native.Mathlib.Nat.{div-add-mod', mul-mod_left}
 use Rattle.model.specs.declared.Instruction.{Instruction}
@@ -65,8 +66,8 @@ layout_reflects l =
 
 -- rule 6
 pub instruction_reflects : (decodes : Option Instruction) → Reflects (is_instruction decodes) (InstructionKept decodes)
-instruction_reflects none = (λ e. absurd (false≢true e), λ w. absurd (none-ne-some w.0 w.1))
-instruction_reflects (some x) = (λ e. (x, refl), λ w. refl)
+instruction_reflects None = (λ e. absurd (false≢true e), λ w. absurd (none-some w.0 w.1))
+instruction_reflects (Some x) = (λ e. (x, refl), λ w. refl)
 
 -- rule 7
 order_reflects : (target : ℕ → TargetRow) (j : ℕ)

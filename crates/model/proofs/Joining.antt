@@ -3,7 +3,7 @@
 use Prim.Native.Nat.{ℕ, zero, suc, ◌+◌}
 use mathlib.Core.Path.{◌≡◌, refl, ◌∙◌}
 use mathlib.Core.List.{List, [], ◌∷◌}
-use mathlib.Core.Option.{Option, none, some}
+use Rattle.std.specs.Prelude.{Option, None, Some}
 use native.Mathlib.Nat.{zero-add, suc-add}
 use native.Mathlib.Omega.{arith}
 use Rattle.model.specs.declared.Ending.{Ending}
@@ -36,20 +36,20 @@ continues_trans r rest last made more before after = record {
 }
 
 -- after a step that does not end it, a run goes on from there
-pub continues_step : (p : Program) (budget : ℕ) (m : Machine) (bs : List ℕ) → (step p m bs).ending ≡ none
+pub continues_step : (p : Program) (budget : ℕ) (m : Machine) (bs : List ℕ) → (step p m bs).ending ≡ None
     → Continues (run p (suc budget) m bs) (run p budget (step p m bs).machine (step p m bs).region) 1
 unfolding run
 continues_step p budget m bs on = rw on (record { ending = refl; machine = refl; region = refl; count = omega arith })
 
 -- a step that ends the run is its last
-pub run_ends : (p : Program) (budget : ℕ) (m : Machine) (bs : List ℕ) (e : Ending) → (step p m bs).ending ≡ some e
+pub run_ends : (p : Program) (budget : ℕ) (m : Machine) (bs : List ℕ) (e : Ending) → (step p m bs).ending ≡ Some e
     → run p (suc budget) m bs
     ≡ record { ending = e; machine = (step p m bs).machine; region = (step p m bs).region; log = step p m bs ∷ [] }
 unfolding run
 run_ends p budget m bs e over = rw over
 
 -- no step uses the budget up
-not_by_step : (e : Ending) → StepEnding (some e) → e ≡ OutOfBudget → ⊥
+not_by_step : (e : Ending) → StepEnding (Some e) → e ≡ OutOfBudget → ⊥
 not_by_step e by-step out = rw out at by-step
 
 followed_continues : (p : Program) (more : ℕ) (s : Step) (short joined : Run) (ending : Option Ending) → StepEnding ending
@@ -57,10 +57,10 @@ followed_continues : (p : Program) (more : ℕ) (s : Step) (short joined : Run) 
     → (short.ending ≡ OutOfBudget → Continues joined (run p more short.machine short.region) (steps short))
     → Continues (followed s joined ending)
     (run p more (followed s short ending).machine (followed s short ending).region) (steps (followed s short ending))
-followed_continues p more s short joined none by-step out others =
+followed_continues p more s short joined None by-step out others =
     let later = others out in
     record { ending = later.ending; machine = later.machine; region = later.region; count = omega arith }
-followed_continues p more s short joined (some e) by-step out others = absurd (not_by_step e by-step out)
+followed_continues p more s short joined (Some e) by-step out others = absurd (not_by_step e by-step out)
 
 -- a run that used its budget up, and then another from where it left off, are one run with both budgets
 pub joining : (p : Program) (first more : ℕ) (m : Machine) (bs : List ℕ) → (run p first m bs).ending ≡ OutOfBudget

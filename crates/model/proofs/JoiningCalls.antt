@@ -3,7 +3,7 @@
 use Prim.Native.Nat.{ℕ, ◌+◌}
 use mathlib.Core.Path.{◌≡◌, refl, sym, ap, ◌∙◌}
 use mathlib.Core.List.{List}
-use mathlib.Core.Option.{Option, none, some}
+use Rattle.std.specs.Prelude.{Option, None, Some}
 use native.Mathlib.Omega.{arith}
 use lib.ListN.{length}
 use Rattle.model.specs.declared.Ending.{Ending}
@@ -38,9 +38,9 @@ unfolding run_on
 ended_runnable file m memory offset budget e n reported =
     (runnable_iff file m memory offset).0 (not_refused _ (first_fault (runnable file m memory offset)) reported)
   where
-    not_refused : (done : Seen) (fault : Option Fault) → (unless_refused m memory done fault).report ≡ ended e n → fault ≡ none
-    not_refused done none is = refl
-    not_refused done (some f) is = absurd (let impossible : ◌≡◌ {A = ℕ} 0 1 = cc in omega arith)
+    not_refused : (done : Seen) (fault : Option Fault) → (unless_refused m memory done fault).report ≡ ended e n → fault ≡ None
+    not_refused done None is = refl
+    not_refused done (Some f) is = absurd (let impossible : ◌≡◌ {A = ℕ} 0 1 = cc in omega arith)
 
 module _ (file : List ℕ) (m : Machine) (memory : List ℕ) (offset first : ℕ) where
   abbrev size : ℕ

@@ -4,6 +4,7 @@ pub mod Loops
 pub mod Obligations
 pub mod Faults
 pub mod Tabulate
+pub mod Made
 pub mod FileRules
 pub mod CodeRules
 pub mod Accepted

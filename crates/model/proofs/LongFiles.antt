@@ -4,7 +4,7 @@ use Prim.Native.Nat.{ℕ, ◌+◌, ◌*◌, ◌≤◌, ◌<◌}
 use mathlib.Core.Path.{◌≡◌, refl, sym, ap, ◌∙◌}
 use mathlib.Core.Bool.{Bool, true, false}
 use mathlib.Core.List.{List, ◌∷◌, ◌++◌}
-use mathlib.Core.Option.{some}
+use Rattle.std.specs.Prelude.{Some}
 use native.Mathlib.Omega.{arith}
 use native.Mathlib.Nat.{mul-le-mul_left}
 use lib.Dec.{leb, eqb}
@@ -22,8 +22,8 @@ use Rattle.model.proofs.Writing.{same_number}
 
 record RefusedAlike (os os' : List Obligation) : Type 0 where
   fault : Fault
-  first : first_fault os ≡ some fault
-  second : first_fault os' ≡ some fault
+  first : first_fault os ≡ Some fault
+  second : first_fault os' ≡ Some fault
 
 -- the same obligation comes first, and if it is met the others are refused alike
 next_alike : (number place : ℕ) {met met' : Bool} {os os' : List Obligation} → met ≡ met' → (met ≡ true → RefusedAlike os os')
@@ -54,7 +54,7 @@ multiple_short unit most n positive passes =
 
 -- a file that goes on behind its fields has a tail
 tail_fault : (bytes : List ℕ) (end : ℕ) (os : List Obligation) → end < length bytes
-    → first_fault (owes 4 end (eqb (length bytes) end) ∷ os) ≡ some (fault 4 end)
+    → first_fault (owes 4 end (eqb (length bytes) end) ∷ os) ≡ Some (fault 4 end)
 unfolding first_fault
 tail_fault bytes end os longer = rw (ne_eqb (length bytes) end (λ same. omega arith))
 
@@ -106,7 +106,7 @@ module _ (file : List ℕ) (m : ℕ) (long : 50198 ≤ m) (inside : m ≤ length
         fault = fault 4 (field_end front at);
         first = tail_fault front (field_end front at) os (omega (arith, front_length));
         second = tail_fault file (field_end file at) os' (omega (arith, same))
-            ∙ ap (λ (n : ℕ). some (fault 4 (value_at at + n))) (sym same);
+            ∙ ap (λ (n : ℕ). Some (fault 4 (value_at at + n))) (sym same);
       }))
     where
       same : field_length front at ≡ field_length file at

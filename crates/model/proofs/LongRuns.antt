@@ -4,7 +4,7 @@ use Prim.Native.Nat.{ℕ, zero, suc, ◌≤◌}
 use mathlib.Core.Path.{◌≡◌, refl, ap, ◌∙◌}
 use mathlib.Core.Bool.{true}
 use mathlib.Core.List.{List, [], ◌∷◌}
-use mathlib.Core.Option.{none}
+use Rattle.std.specs.Prelude.{None}
 use native.Mathlib.Omega.{arith}
 use lib.IntN.{pos}
 use lib.ListN.{length, length-replicate}
@@ -62,7 +62,7 @@ decoded : program_in counting ≡ looped
 unfolding counting verdict
 decoded = refl
 
-counting_accepted : first_broken counting ≡ none
+counting_accepted : first_broken counting ≡ None
 unfolding counting verdict
 counting_accepted = refl
 

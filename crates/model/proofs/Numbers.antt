@@ -5,7 +5,8 @@ use mathlib.Core.Path.{◌≡◌, refl, sym, ap}
 use mathlib.Core.Bool.{Bool, true, false}
 use mathlib.Core.Logic.{◌⊎◌, inl, inr}
 use mathlib.Core.List.{List, [], ◌∷◌, ◌++◌}
-use mathlib.Core.Option.{Option, none, some, none-ne-some, some-injective}
+use Rattle.std.specs.Prelude.{Option, None, Some}
+use Rattle.std.proofs.lemmas.Option.{none-some, same_Some}
 use native.Mathlib.Omega.{arith}
 use Rattle.model.specs.declared.Instruction.{Instruction}
 use Rattle.model.specs.declared.Layout.{Layout}
@@ -31,15 +32,15 @@ module _ (P : ℕ → Type 0) where
   each_numbered i zero f h = tt
   each_numbered i (suc n) f h = append_numbered (f i) (each_from (suc i) n f) (h i) (each_numbered (suc i) n f h)
 
-  pub first_numbered : (os : List Obligation) (f : Fault) → Numbered os → first_fault os ≡ some f → P f.number
+  pub first_numbered : (os : List Obligation) (f : Fault) → Numbered os → first_fault os ≡ Some f → P f.number
   unfolding first_fault
-  first_numbered [] f h e = absurd (none-ne-some f e)
+  first_numbered [] f h e = absurd (none-some f e)
   first_numbered (o ∷ os) f h e = by_head o.met (λ r. first_numbered os f h.1 r) e
     where
-      by_head : (met : Bool) → (first_fault os ≡ some f → P f.number) → fault_unless met o.fault (first_fault os) ≡ some f
+      by_head : (met : Bool) → (first_fault os ≡ Some f → P f.number) → fault_unless met o.fault (first_fault os) ≡ Some f
           → P f.number
       by_head true later r = later r
-      by_head false later r = rw (some-injective o.fault f r) at h.0
+      by_head false later r = rw (same_Some o.fault f r) at h.0
 
   -- 5, 6 and 7
   module _ (layout : P 5) (instruction : P 6) (target : P 7) where
@@ -92,33 +93,33 @@ runnable_numbered file m memory offset =
     (inr (omega arith), (inr (omega arith), tt))
 
 -- what is named is one of them
-pub readable_listed : (file : List ℕ) (f : Fault) → first_fault (readable file) ≡ some f → 1 ≤ f.number
+pub readable_listed : (file : List ℕ) (f : Fault) → first_fault (readable file) ≡ Some f → 1 ≤ f.number
 readable_listed file f named = first_numbered (λ n. 1 ≤ n) (readable file) f (readable_numbered (λ n. 1 ≤ n) (λ n least most. least) _ file) named
 
-pub sweepable_listed : (file : List ℕ) (f : Fault) → first_fault (sweepable file) ≡ some f → (1 ≤ f.number) × (f.number ≤ 7)
+pub sweepable_listed : (file : List ℕ) (f : Fault) → first_fault (sweepable file) ≡ Some f → (1 ≤ f.number) × (f.number ≤ 7)
 sweepable_listed file f named =
     first_numbered (λ n. (1 ≤ n) × (n ≤ 7)) (sweepable file) f
     (readable_numbered (λ n. (1 ≤ n) × (n ≤ 7)) (λ n least most. (least, most)) _ file) named
 
-pub judged_listed : (file : List ℕ) (f : Fault) → first_broken file ≡ some f → ForVerdict f.number
+pub judged_listed : (file : List ℕ) (f : Fault) → first_broken file ≡ Some f → ForVerdict f.number
 unfolding first_broken
 judged_listed file f named = first_numbered ForVerdict (obligations file) f (obligations_numbered file) named
 
 pub runnable_listed : (file : List ℕ) (m : Machine) (memory : List ℕ) (offset : ℕ) (f : Fault)
-    → first_fault (runnable file m memory offset) ≡ some f → ForRun f.number
+    → first_fault (runnable file m memory offset) ≡ Some f → ForRun f.number
 runnable_listed file m memory offset f named = first_numbered ForRun (runnable file m memory offset) f (runnable_numbered file m memory offset) named
 
-pub refused_judged : (file : List ℕ) (f : Fault) → judgement file ≡ refused f → first_broken file ≡ some f
+pub refused_judged : (file : List ℕ) (f : Fault) → judgement file ≡ refused f → first_broken file ≡ Some f
 unfolding judgement
 refused_judged file f is = by_fault (first_broken file) is
   where
-    by_fault : (o : Option Fault) → concluded file o ≡ refused f → o ≡ some f
-    by_fault none same = absurd (let impossible : ◌≡◌ {A = ℕ} 0 1 = cc in omega arith)
-    by_fault (some g) same = cc
+    by_fault : (o : Option Fault) → concluded file o ≡ refused f → o ≡ Some f
+    by_fault None same = absurd (let impossible : ◌≡◌ {A = ℕ} 0 1 = cc in omega arith)
+    by_fault (Some g) same = cc
 
 -- what a report of a refusal tells: the fault, no steps, and that nothing is changed
 record Told (os : Option Fault) (m : Machine) (memory : List ℕ) (f : Fault) (n : ℕ) (seen : Seen) : Type 0 where
-  fault : os ≡ some f
+  fault : os ≡ Some f
   steps : n ≡ 0
   machine_kept : seen.machine ≡ m
   memory_kept : seen.memory ≡ memory
@@ -134,11 +135,11 @@ told file m memory offset budget f n is = by_fault (run (program_in file) budget
 
     by_fault : (r : Run) (o : Option Fault) → (unless_refused m memory (finished offset size memory r) o).report ≡ rejected f n
         → Told o m memory f n (unless_refused m memory (finished offset size memory r) o)
-    by_fault r none same = absurd (let impossible : ◌≡◌ {A = ℕ} 0 1 = cc in omega arith)
-    by_fault r (some g) same =
+    by_fault r None same = absurd (let impossible : ◌≡◌ {A = ℕ} 0 1 = cc in omega arith)
+    by_fault r (Some g) same =
         let fault : ◌≡◌ {A = Fault} g f = cc in
         let steps : ◌≡◌ {A = ℕ} 0 n = cc in
-        record { fault = ap some fault; steps = sym steps; machine_kept = refl; memory_kept = refl }
+        record { fault = ap Some fault; steps = sym steps; machine_kept = refl; memory_kept = refl }
 
 pub refusals_listed : RefusalsListed
 refusals_listed = record {

@@ -1,33 +1,34 @@
 -- Lists of obligations: no fault is named exactly if all are met, and a fault that is named is the first.
 -- Assumes nothing.
 use Prim.Native.Nat.{ℕ, zero, suc, ◌+◌, ◌≤◌, ◌<◌}
-use mathlib.Core.Path.{◌≡◌, refl, ap}
+use mathlib.Core.Path.{◌≡◌, refl, sym, ap}
 use mathlib.Core.Logic.{◌↔◌}
 use mathlib.Core.Bool.{Bool, true, false}
 use mathlib.Core.List.{List, [], ◌∷◌, ◌++◌}
-use mathlib.Core.Option.{none, some, none-ne-some, some-ne-none, some-injective}
+use Rattle.std.specs.Prelude.{None, Some}
+use Rattle.std.proofs.lemmas.Option.{none-some, same_Some}
 use native.Mathlib.Omega.{arith}
 use native.Mathlib.Decide.{ℕ_discrete}
 use Rattle.model.specs.Obligations.{Fault, Obligation, owes, each, fault_unless, first_fault, each_from, AllMet, FirstUnmet}
 
 -- no fault is named exactly if every obligation is met
-pub none_iff_met : (os : List Obligation) → (first_fault os ≡ none) ↔ AllMet os
+pub none_iff_met : (os : List Obligation) → (first_fault os ≡ None) ↔ AllMet os
 unfolding first_fault
 none_iff_met [] = (λ e. tt, λ h. refl)
 none_iff_met (o ∷ os) = by_head o.met (none_iff_met os)
   where
-    by_head : (met : Bool) → (first_fault os ≡ none) ↔ AllMet os
-        → (fault_unless met o.fault (first_fault os) ≡ none) ↔ ((met ≡ true) × AllMet os)
+    by_head : (met : Bool) → (first_fault os ≡ None) ↔ AllMet os
+        → (fault_unless met o.fault (first_fault os) ≡ None) ↔ ((met ≡ true) × AllMet os)
     by_head true rest = (λ e. (refl, rest.0 e), λ h. rest.1 h.1)
-    by_head false rest = (λ e. absurd (some-ne-none o.fault e), λ h. absurd (unmet h.0))
+    by_head false rest = (λ e. absurd (none-some o.fault (sym e)), λ h. absurd (unmet h.0))
       where
         unmet : false ≡ true → ⊥
         unmet e = let z : ◌≡◌ {A = ℕ} 0 1 = cc in omega arith
 
 -- a fault that is named is that of the first obligation that is not met
-pub first_unmet : (os : List Obligation) (f : Fault) → first_fault os ≡ some f → FirstUnmet os f
+pub first_unmet : (os : List Obligation) (f : Fault) → first_fault os ≡ Some f → FirstUnmet os f
 unfolding first_fault
-first_unmet [] f e = absurd (none-ne-some f e)
+first_unmet [] f e = absurd (none-some f e)
 first_unmet (o ∷ os) f e = by_head o.met refl (λ r. first_unmet os f r) e
   where
     behind : o.met ≡ true → FirstUnmet os f → FirstUnmet (o ∷ os) f
@@ -41,8 +42,8 @@ first_unmet (o ∷ os) f e = by_head o.met refl (λ r. first_unmet os f r) e
       fault = u.fault;
     }
 
-    by_head : (met : Bool) → o.met ≡ met → (first_fault os ≡ some f → FirstUnmet os f)
-        → fault_unless met o.fault (first_fault os) ≡ some f → FirstUnmet (o ∷ os) f
+    by_head : (met : Bool) → o.met ≡ met → (first_fault os ≡ Some f → FirstUnmet os f)
+        → fault_unless met o.fault (first_fault os) ≡ Some f → FirstUnmet (o ∷ os) f
     by_head true m rest r = behind m (rest r)
     by_head false m rest r =
         record {
@@ -52,7 +53,7 @@ first_unmet (o ∷ os) f e = by_head o.met refl (λ r. first_unmet os f r) e
           order = refl;
           passed = tt;
           fails = m;
-          fault = some-injective o.fault f r;
+          fault = same_Some o.fault f r;
         }
 
 -- of two lists, one after the other
@@ -63,7 +64,7 @@ append_met (x ∷ xs) ys = (
   λ h. (h.0.0, (append_met xs ys).1 (h.0.1, h.1)),
 )
 
-pub append_fault : (xs ys : List Obligation) → (first_fault (xs ++ ys) ≡ none) ↔ ((first_fault xs ≡ none) × (first_fault ys ≡ none))
+pub append_fault : (xs ys : List Obligation) → (first_fault (xs ++ ys) ≡ None) ↔ ((first_fault xs ≡ None) × (first_fault ys ≡ None))
 append_fault xs ys = (
   λ e.
       let r = (append_met xs ys).0 ((none_iff_met (xs ++ ys)).0 e) in

@@ -5,7 +5,7 @@ use mathlib.Core.Bool.{true}
 use mathlib.Core.Logic.Iff
 use mathlib.Core.Logic.{◌↔◌}
 use mathlib.Core.List.{List, [], ◌∷◌}
-use mathlib.Core.Option.{Option, none, some}
+use Rattle.std.specs.Prelude.{Option, None, Some}
 use native.Mathlib.Omega.{arith}
 use native.Mathlib.Nat.{mul-le-mul_left}
 use lib.Dec.{ltb}
@@ -62,9 +62,9 @@ long_files = record {
 -- a step that ends the run leaves all as it was
 module _ (p : Program) (m : Machine) (bs reached : List ℕ) where
   abbrev Keeps : Step → Type 0
-  Keeps s = (e : Ending) → s.ending ≡ some e → (s.machine ≡ m) × (s.region ≡ bs)
+  Keeps s = (e : Ending) → s.ending ≡ Some e → (s.machine ≡ m) × (s.region ≡ bs)
 
-  moved : {e : Ending} {A : Type 0} → ◌≡◌ {A = Option Ending} none (some e) → A
+  moved : {e : Ending} {A : Type 0} → ◌≡◌ {A = Option Ending} None (Some e) → A
   moved same = absurd (let impossible : ◌≡◌ {A = ℕ} 0 1 = cc in omega arith)
 
   settle_keeps : (does : Effect) → Keeps (settle p m bs reached does)
@@ -74,7 +74,7 @@ module _ (p : Program) (m : Machine) (bs reached : List ℕ) where
   settle_keeps (goes_via to) = by_cond Keeps (is_indirect p.targets to) (λ _ e same. moved same) (λ _ e same. (refl, refl))
   settle_keeps (ends ending) = λ e same. (refl, refl)
 
-step_keeps : (p : Program) (m : Machine) (bs : List ℕ) (e : Ending) → (step p m bs).ending ≡ some e
+step_keeps : (p : Program) (m : Machine) (bs : List ℕ) (e : Ending) → (step p m bs).ending ≡ Some e
     → ((step p m bs).machine ≡ m) × ((step p m bs).region ≡ bs)
 unfolding step step_of
 step_keeps p m bs e same = settle_keeps p m bs _ _ e same

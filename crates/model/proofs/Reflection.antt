@@ -3,7 +3,8 @@ use Prim.Native.Nat.{ℕ, zero, suc, ◌/◌, ◌%◌, ◌≤◌, ◌<◌}
 use mathlib.Core.Path.{◌≡◌, refl, sym, ap, ◌∙◌}
 use mathlib.Core.Logic.{◌↔◌, ◌⊎◌, inl, inr}
 use mathlib.Core.Bool.{Bool, true, false, not, ◌&&◌, ◌||◌, false≢true}
-use mathlib.Core.Option.{Option, none, some, none-ne-some, some-injective}
+use Rattle.std.specs.Prelude.{Option, None, Some}
+use Rattle.std.proofs.lemmas.Option.{none-some, same_Some}
 use native.Mathlib.Omega.{arith}
 use native.Mathlib.Decide.{ℕ_discrete}
 use native.Mathlib.Nat.{div-add-mod, div-eq_of_eq-mul_right, mul-mod_right}
@@ -119,14 +120,14 @@ any_below_reflects n {f} {P} p =
 
 -- over what may be there
 pub all_of_reflects : {A : Type 0} (o : Option A) {f : A → Bool} {P : A → Type 0} → ((x : A) → Reflects (f x) (P x))
-    → Reflects (all_of o f) ((x : A) → o ≡ some x → P x)
-all_of_reflects none p = (λ e x q. absurd (none-ne-some x q), λ h. refl)
-all_of_reflects (some y) {f} {P} p =
-    (λ e x q. rw (← some-injective y x q) ((p y).0 e), λ h. (p y).1 (h y refl))
+    → Reflects (all_of o f) ((x : A) → o ≡ Some x → P x)
+all_of_reflects None p = (λ e x q. absurd (none-some x q), λ h. refl)
+all_of_reflects (Some y) {f} {P} p =
+    (λ e x q. rw (← same_Some y x q) ((p y).0 e), λ h. (p y).1 (h y refl))
 
-pub any_of_reflects : (o : Option ℕ) (a : ℕ) → Reflects (any_of o (eqb a)) (o ≡ some a)
-any_of_reflects none a = (λ e. absurd (false≢true e), λ q. absurd (none-ne-some a q))
-any_of_reflects (some b) a = (λ e. ap some (sym (eqb-true a b e)), λ q. eq-eqb a b (sym (some-injective b a q)))
+pub any_of_reflects : (o : Option ℕ) (a : ℕ) → Reflects (any_of o (eqb a)) (o ≡ Some a)
+any_of_reflects None a = (λ e. absurd (false≢true e), λ q. absurd (none-some a q))
+any_of_reflects (Some b) a = (λ e. ap Some (sym (eqb-true a b e)), λ q. eq-eqb a b (sym (same_Some b a q)))
 
 -- a length that is listed: some of a unit, from one to the most
 pub multiple_reflects : (unit most len : ℕ) → 0 < unit → Reflects (is_multiple unit most len) (SomeOf unit most len)

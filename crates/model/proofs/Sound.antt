@@ -2,7 +2,7 @@
 -- Assumes nothing.
 use Prim.Native.Nat.{ℕ, ◌<◌}
 use mathlib.Core.List.{List}
-use mathlib.Core.Option.{Option, some}
+use Rattle.std.specs.Prelude.{Option, Some}
 use borrow.Author.Tests.{ltb-true}
 use Rattle.model.specs.declared.Instruction.{Instruction}
 use Rattle.model.specs.declared.Instruction.TheVariants.{Halt, Set, Copy, Add, Addi, Sub, Andi, Guard, Shr, Sar, Load, Store, Jump, Branch, Check, Jumpr}
@@ -113,22 +113,22 @@ module _ {l : Layout} (lk : LayoutKept l) (a b w imm : ℕ) (imm_word : imm < mo
   rows_sound : Rows (SoundIn l) (rows a b w imm)
   unfolding rows shape
   rows_sound =
-      provided_row (SoundIn l) (has_nothing a b w imm) (some Halt) (λ _. tt)
-      then uses_a_imm (some (Set a imm)) (λ a8. from_a a8 (λ k rs x. constant_fits imm imm_word))
-      then uses_a_b (some (Copy a b)) (λ a8 b8. from_a_b a8 b8 (λ k rs x y. y))
-      then uses_a_b (some (Add a b)) (λ a8 b8. from_a_b a8 b8 (λ k rs x y. add_fits x y))
-      then uses_a_imm (some (Addi a (signed imm))) (λ a8. from_a a8 (λ k rs x. addi_fits (signed imm) imm_signed x))
-      then uses_a_b (some (Sub a b)) (λ a8 b8. from_a_b a8 b8 (λ k rs x y. sub_fits x y))
-      then uses_a_imm (some (Andi a imm)) (λ a8. from_a a8 (λ k rs x. and_fits imm x))
-      then uses_a (some (Guard a)) (λ a8. from_a a8 (λ k rs x. guard_fits lk x))
-      then uses_a_w (some (Shr a w)) (λ a8. from_a a8 (λ k rs x. shr_fits w x))
-      then uses_a_w (some (Sar a w)) (λ a8. from_a a8 (λ k rs x. sar_fits w x))
+      provided_row (SoundIn l) (has_nothing a b w imm) (Some Halt) (λ _. tt)
+      then uses_a_imm (Some (Set a imm)) (λ a8. from_a a8 (λ k rs x. constant_fits imm imm_word))
+      then uses_a_b (Some (Copy a b)) (λ a8 b8. from_a_b a8 b8 (λ k rs x y. y))
+      then uses_a_b (Some (Add a b)) (λ a8 b8. from_a_b a8 b8 (λ k rs x y. add_fits x y))
+      then uses_a_imm (Some (Addi a (signed imm))) (λ a8. from_a a8 (λ k rs x. addi_fits (signed imm) imm_signed x))
+      then uses_a_b (Some (Sub a b)) (λ a8 b8. from_a_b a8 b8 (λ k rs x y. sub_fits x y))
+      then uses_a_imm (Some (Andi a imm)) (λ a8. from_a a8 (λ k rs x. and_fits imm x))
+      then uses_a (Some (Guard a)) (λ a8. from_a a8 (λ k rs x. guard_fits lk x))
+      then uses_a_w (Some (Shr a w)) (λ a8. from_a a8 (λ k rs x. shr_fits w x))
+      then uses_a_w (Some (Sar a w)) (λ a8. from_a a8 (λ k rs x. sar_fits w x))
       then uses_all _ (λ a8 b8. mapped_row (SoundIn l) (λ (v : LoadWidth). Load a b v (signed imm)) (load_width_of w) (λ v. access_sound a8 b8 (width_read v)))
       then uses_all _ (λ a8 b8. mapped_row (SoundIn l) (λ (v : Width). Store a b v (signed imm)) (width_of w) (access_sound a8 b8))
-      then provided_row (SoundIn l) (has_imm a b w) (some (Jump imm)) (λ _. tt)
+      then provided_row (SoundIn l) (has_imm a b w) (Some (Jump imm)) (λ _. tt)
       then uses_all _ (λ a8 b8. mapped_row (SoundIn l) (λ (t : Test). Branch a b t imm) (test_of w) (λ t. record { left = a8; right = b8 }))
-      then uses_a (some (Check a)) (λ a8. a8)
-      then uses_a (some (Jumpr a)) (λ a8. a8)
+      then uses_a (Some (Check a)) (λ a8. a8)
+      then uses_a (Some (Jumpr a)) (λ a8. a8)
       then no_more
 
 -- every index of a module has a sound shape

@@ -4,7 +4,7 @@ use Prim.Native.Nat.{ℕ, zero, suc, ◌+◌, ◌/◌, ◌%◌, ◌<◌}
 use mathlib.Core.Path.{◌≡◌, refl, ◌∙◌}
 use mathlib.Core.Bool.{Bool, true, false≢true}
 use mathlib.Core.List.{List}
-use mathlib.Core.Option.{Option, none, some}
+use Rattle.std.specs.Prelude.{Option, None, Some}
 use native.Mathlib.Omega.{arith}
 use lib.Dec.{ltb}
 use lib.ListN.{length, set, length-set}
@@ -25,14 +25,14 @@ use Rattle.model.proofs.Tests.{by_cond}
 
 -- the targets lie inside the code
 abbrev pub TargetsInside : Program → Type 0
-TargetsInside p = (i : ℕ) (t : Target) → target_at p.targets i ≡ some t → i < length p.code
+TargetsInside p = (i : ℕ) (t : Target) → target_at p.targets i ≡ Some t → i < length p.code
 
 -- what a step keeps
 pub record Steady (p : Program) (m : Machine) (bs : List ℕ) (s : Step) : Type 0 where
   pub pc_inside : s.machine.pc < length p.code
   pub registers_length : length s.machine.registers ≡ length m.registers
   pub region_length : length s.region ≡ length bs
-  pub ending_keeps : (e : Ending) → s.ending ≡ some e → (s.machine ≡ m) × (s.region ≡ bs)
+  pub ending_keeps : (e : Ending) → s.ending ≡ Some e → (s.machine ≡ m) × (s.region ≡ bs)
 
 -- what a run keeps
 pub record RunSteady (p : Program) (m : Machine) (bs : List ℕ) (r : Run) : Type 0 where
@@ -42,12 +42,12 @@ pub record RunSteady (p : Program) (m : Machine) (bs : List ℕ) (r : Run) : Typ
 
 -- an ending that a step may have: none, or any but that the budget is used up
 abbrev pub StepEnding : Option Ending → Type 0
-StepEnding none = Unit {0}
-StepEnding (some Halted) = Unit {0}
-StepEnding (some Trapped) = Unit {0}
-StepEnding (some Denied) = Unit {0}
-StepEnding (some Violated) = Unit {0}
-StepEnding (some OutOfBudget) = ⊥
+StepEnding None = Unit {0}
+StepEnding (Some Halted) = Unit {0}
+StepEnding (Some Trapped) = Unit {0}
+StepEnding (Some Denied) = Unit {0}
+StepEnding (Some Violated) = Unit {0}
+StepEnding (Some OutOfBudget) = ⊥
 
 -- ---- what an instruction does
 
@@ -63,14 +63,14 @@ abbrev Moderate : List ℕ → List ℕ → Effect → Type 0
 Moderate rs bs (goes_on rs' bs') = (length rs' ≡ length rs) × (length bs' ≡ length bs)
 Moderate rs bs (goes_to to) = Unit {0}
 Moderate rs bs (goes_via to) = Unit {0}
-Moderate rs bs (ends e) = StepEnding (some e)
+Moderate rs bs (ends e) = StepEnding (Some e)
 
 accessing_moderate : (l : Layout) (at : ℕ) (w : Width) (rs bs : List ℕ) (done : Effect)
     → Moderate rs bs done → Moderate rs bs (accessing l at w done)
 unfolding accessing
 accessing_moderate l at w rs bs done moderate =
     by_cond (Moderate rs bs) (in_region l at (bytes_of w)) (λ _. moderate)
-    (λ _. by_cond (λ (e : Ending). StepEnding (some e)) (in_zones l at (bytes_of w)) (λ _. tt) (λ _. tt))
+    (λ _. by_cond (λ (e : Ending). StepEnding (Some e)) (in_zones l at (bytes_of w)) (λ _. tt) (λ _. tt))
 
 effect_moderate : (l : Layout) (ts : List Target) (sh : Shape) (rs bs : List ℕ) → Moderate rs bs (effect l ts sh rs bs)
 unfolding effect
@@ -110,10 +110,10 @@ step_ending p m bs =
 -- a test of the target at an index is passed only where there is one, and so inside the code
 passed_inside : (p : Program) → TargetsInside p → (to : ℕ) (test : Target → Bool) (found : Option Target)
     → target_at p.targets to ≡ found → any_of found test ≡ true → to < length p.code
-passed_inside p inside to test none lookup passed = absurd (false≢true passed)
-passed_inside p inside to test (some t) lookup passed = inside to t lookup
+passed_inside p inside to test None lookup passed = absurd (false≢true passed)
+passed_inside p inside to test (Some t) lookup passed = inside to t lookup
 
-no_ending : (e : Ending) → ◌≡◌ {A = Option Ending} none (some e) → ⊥
+no_ending : (e : Ending) → ◌≡◌ {A = Option Ending} None (Some e) → ⊥
 no_ending e same = let impossible : ◌≡◌ {A = ℕ} 0 1 = cc in omega arith
 
 stays_steady : (p : Program) (m : Machine) (bs reached : List ℕ) (landing : Landing) (e : Ending)
@@ -161,12 +161,12 @@ step_steady p inside m bs starts-inside =
 
 followed_steady : (p : Program) (m : Machine) (bs : List ℕ) (s : Step) (rest : Run) (ending : Option Ending)
     → Steady p m bs s → RunSteady p s.machine s.region rest → RunSteady p m bs (followed s rest ending)
-followed_steady p m bs s rest none first others = record {
+followed_steady p m bs s rest None first others = record {
   pc_inside = others.pc_inside;
   registers_length = others.registers_length ∙ first.registers_length;
   region_length = others.region_length ∙ first.region_length;
 }
-followed_steady p m bs s rest (some e) first others = record {
+followed_steady p m bs s rest (Some e) first others = record {
   pc_inside = first.pc_inside;
   registers_length = first.registers_length;
   region_length = first.region_length;

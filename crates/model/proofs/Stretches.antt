@@ -4,7 +4,7 @@ use Prim.Native.Nat.{ℕ, ◌+◌, ◌*◌, ◌≤◌, ◌<◌}
 use mathlib.Core.Path.{◌≡◌, refl, sym, ap, ◌∙◌}
 use mathlib.Core.Bool.{Bool, true, false}
 use mathlib.Core.List.{List}
-use mathlib.Core.Option.{Option, none, some}
+use Rattle.std.specs.Prelude.{Option, None, Some}
 use native.Mathlib.Omega.{arith}
 use borrow.Author.Tests.{ltb-true, ltb-false}
 use lib.Dec.{ltb}
@@ -18,7 +18,7 @@ use Rattle.model.proofs.Reflection.{Reflects, eq_reflects, multiple_reflects}
 use Rattle.model.proofs.FileRules.{field_kept}
 
 module _ (file : List ℕ) (at tag : ℕ) where
-  pub value_stretch : first_fault (field file at tag) ≡ none
+  pub value_stretch : first_fault (field file at tag) ≡ None
       → field_value file at tag ≡ take (field_length file at) (drop (value_at at) file)
   unfolding field_value
   value_stretch met = rw met
@@ -53,8 +53,8 @@ module _ (file : List ℕ) (at tag : ℕ) where
       by_place n false beyond = past n (drop (value_at at) file) i (ltb-false _ _ beyond)
 
       by_fault : (found : Option Fault) → get_or (unless_fault found (take (field_length file at) (drop (value_at at) file))) i 0 < 256
-      by_fault none = by_place (field_length file at) (ltb i (field_length file at)) refl
-      by_fault (some f) = omega arith
+      by_fault None = by_place (field_length file at) (ltb i (field_length file at)) refl
+      by_fault (Some f) = omega arith
 
 -- the lengths that are listed for each
 pub layout_listed : (n : ℕ) → Reflects (is_listed 1 n) (n ≡ 12)

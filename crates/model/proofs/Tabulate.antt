@@ -1,7 +1,7 @@
 -- Lists made from their indexes. Assumes nothing.
 use Prim.Native.Nat.{ℕ, zero, suc, ◌+◌, ◌≤◌, ◌<◌}
 use mathlib.Core.Path.{◌≡◌, refl, sym, ap, ◌∙◌}
-use mathlib.Core.List.{List, [], ◌∷◌, map}
+use mathlib.Core.List.{List, map}
 use native.Mathlib.Nat.{add-zero, zero-add}
 use native.Mathlib.Omega.{arith}
 use lib.ListN.{length, get_or}
@@ -54,8 +54,3 @@ map-tabulate g f i zero = refl
 map-tabulate g f i (suc n) = rw (map-tabulate g f (suc i) n)
 
 -- a table of eight, entry by entry
-pub eight_entries : {A : Type 0} (f : ℕ → A) {a b c d e g h i : A}
-    → a ≡ f 0 → b ≡ f 1 → c ≡ f 2 → d ≡ f 3 → e ≡ f 4 → g ≡ f 5 → h ≡ f 6 → i ≡ f 7
-    → a ∷ b ∷ c ∷ d ∷ e ∷ g ∷ h ∷ i ∷ [] ≡ tabulate 0 8 f
-unfolding tabulate
-eight_entries f at0 at1 at2 at3 at4 at5 at6 at7 = rw (at0, at1, at2, at3, at4, at5, at6, at7)

@@ -4,7 +4,8 @@ use Prim.Native.Nat.{ℕ, zero, suc, ◌+◌, ◌≤◌, ◌<◌}
 use mathlib.Core.Path.{◌≡◌, refl, sym, subst}
 use mathlib.Core.Bool.{Bool, true, false}
 use mathlib.Core.List.{List}
-use mathlib.Core.Option.{Option, some, none-ne-some, some-injective, get_or}
+use Rattle.std.specs.Prelude.{Option, Some, unwrap_or}
+use Rattle.std.proofs.lemmas.Option.{none-some, same_Some}
 use native.Mathlib.Omega.{arith}
 use lib.Dec.{eqb}
 use lib.ListN.{length}
@@ -26,13 +27,13 @@ module _ (l : Layout) (code targets : List ℕ) where
   -- a module has as many instructions as its code has bytes for
   pub code_length : length (program_of l code targets).code ≡ instruction_count code
   unfolding program_of
-  code_length = length-tabulate 0 (instruction_count code) (λ i. get_or (instruction_in code i) Halt)
+  code_length = length-tabulate 0 (instruction_count code) (λ i. unwrap_or (instruction_in code i) Halt)
 
   -- the instruction at an index is what its eight bytes are
-  pub code_at_lem : (i : ℕ) → i < instruction_count code → get_or (instruction_in code i) Halt ≡ code_at (program_of l code targets) i
+  pub code_at_lem : (i : ℕ) → i < instruction_count code → unwrap_or (instruction_in code i) Halt ≡ code_at (program_of l code targets) i
   unfolding program_of
   code_at_lem i below =
-      sym (table_at (λ j. get_or (instruction_in code j) Halt) Halt (instruction_count code) i below)
+      sym (table_at (λ j. unwrap_or (instruction_in code j) Halt) Halt (instruction_count code) i below)
 
 -- what is found at index i in a table of targets is the entry of some number, and has that index
 pub record Found (f : ℕ → Target) (from count i : ℕ) (t : Target) : Type 0 where
@@ -42,17 +43,17 @@ pub record Found (f : ℕ → Target) (from count i : ℕ) (t : Target) : Type 0
   pub is : f number ≡ t
   pub index : (f number).index ≡ i
 
-pub found : (f : ℕ → Target) (from count i : ℕ) (t : Target) → target_at (tabulate from count f) i ≡ some t → Found f from count i t
+pub found : (f : ℕ → Target) (from count i : ℕ) (t : Target) → target_at (tabulate from count f) i ≡ Some t → Found f from count i t
 unfolding target_at tabulate
-found f from zero i t e = absurd (none-ne-some t e)
+found f from zero i t e = absurd (none-some t e)
 found f from (suc count) i t e = here_or_later (eqb (f from).index i) refl (λ q. found f (suc from) count i t q) e
   where
     here_or_later : (b : Bool) → eqb (f from).index i ≡ b
-        → (target_at (tabulate (suc from) count f) i ≡ some t → Found f (suc from) count i t)
-        → elim b as (λ _. Option Target) [ true ↦ some (f from) | false ↦ target_at (tabulate (suc from) count f) i ] ≡ some t
+        → (target_at (tabulate (suc from) count f) i ≡ Some t → Found f (suc from) count i t)
+        → elim b as (λ _. Option Target) [ true ↦ Some (f from) | false ↦ target_at (tabulate (suc from) count f) i ] ≡ Some t
         → Found f from (suc count) i t
     here_or_later true same later q =
-        record { number = from; least = omega arith; most = omega arith; is = some-injective (f from) t q; index = eqb-true _ _ same }
+        record { number = from; least = omega arith; most = omega arith; is = same_Some (f from) t q; index = eqb-true _ _ same }
     here_or_later false other later q =
         let l = later q in
         record { number = l.number; least = omega (arith, l.least); most = omega (arith, l.most); is = l.is; index = l.index }
@@ -74,7 +75,7 @@ pub record TargetFacts (n i : ℕ) (t : Target) : Type 0 where
       → (low t.claim r ≡ low indirect_claim r) × (high t.claim r ≡ high indirect_claim r)
 
 module _ {l : Layout} {code targets : List ℕ} (kept : ModulePlaced l code targets) where
-  pub target_facts : (i : ℕ) (t : Target) → target_at (program_of l code targets).targets i ≡ some t
+  pub target_facts : (i : ℕ) (t : Target) → target_at (program_of l code targets).targets i ≡ Some t
       → TargetFacts (length (program_of l code targets).code) i t
   unfolding program_of target_in claim_in
   target_facts i t e =

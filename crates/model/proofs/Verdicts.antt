@@ -1,7 +1,7 @@
 -- The verdict on a file that is given byte by byte, for proofs by computation: what has to be opened for it, once. Assumes nothing.
 use Prim.Native.Nat.{ℕ}
 use mathlib.Core.List.{List}
-use mathlib.Core.Option.{Option}
+use Rattle.std.specs.Prelude.{Option}
 use Rattle.model.specs.Quantifiers.{all_below, any_below}
 use Rattle.model.specs.Words.{signed, read_bytes}
 use Rattle.model.specs.Obligations.{Fault, first_fault, each_from}

@@ -1,7 +1,6 @@
 -- Accuracy of the ranges, stated: where the registers lie within what is known before an instruction, they lie within what is known
 -- along the edge that it takes; and what rule N cuts to. Assumes nothing.
-use Rattle.std.specs.Prelude.{ℕ, ◌-◌, ◌≤◌, ◌<◌, ◌≡◌, ◌↔◌, List, ℤ, pos, ◌+ℤ◌, ◌≤ℤ◌, length}
-use Rattle.std.proofs.Math.Option.{some}
+use Rattle.std.specs.Prelude.{ℕ, ◌-◌, ◌≤◌, ◌<◌, ◌≡◌, ◌↔◌, List, ℤ, pos, ◌+ℤ◌, ◌≤ℤ◌, length, Some}
 use Rattle.std.proofs.Math.IntN.{sub_ℕ}
 use Rattle.std.specs.Int.Signed.{mag}
 use Rattle.model.specs.declared.Layout.{Layout}
@@ -25,7 +24,7 @@ pub record Within (k : Ranges) (rs : List ℕ) : Type 0 where
 
 -- the access of an instruction, if it makes one, keeps 10
 abbrev pub AccessAllowed : Layout → Shape → Ranges → Type 0
-AccessAllowed l s k = (ac : Access) → (traits s).access ≡ some ac → Allowed l k ac
+AccessAllowed l s k = (ac : Access) → (traits s).access ≡ Some ac → Allowed l k ac
 
 -- registers within ranges, and the region's bytes
 pub record Ready (p : Program) (k : Ranges) (rs bs : List ℕ) : Type 0 where

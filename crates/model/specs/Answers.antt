@@ -1,16 +1,13 @@
 -- "For enum answers, a definition gives this paper's number and values for each case, and the promises use that definition."
 -- Assumes nothing.
-use Rattle.std.specs.Prelude.{ℕ}
+use Rattle.std.specs.Prelude.{ℕ, Result, Ok, Err}
 use Rattle.model.specs.declared.Ending.{Ending}
 use Rattle.model.specs.declared.Ending.TheVariants.{Halted, Trapped, Denied, Violated, OutOfBudget}
 use Rattle.model.specs.declared.Rule.{Rule}
 use Rattle.model.specs.declared.Rule.TheVariants.{Truncated, WrongTag, BadLength, TrailingBytes, BadLayout, BadInstruction, BadTarget, NoTarget, UncheckedJump, WildAccess, BrokenClaim, Unreachable, FallsOff, BadPc, NoRoom, NoSpace}
 use Rattle.model.specs.declared.Refusal.{Refusal}
-use Rattle.model.specs.declared.Verdict.{Verdict}
-use Rattle.model.specs.declared.Verdict.TheVariants as Verdicts
+use Rattle.model.specs.declared.Contents.{Contents}
 use Rattle.model.specs.declared.Answer.{Answer}
-use Rattle.model.specs.declared.Completion.{Completion}
-use Rattle.model.specs.declared.Completion.TheVariants as Completions
 use Rattle.model.specs.Obligations.{Fault, fault}
 
 -- the number of a refusal, with its word in document 01; from 16 on in document 02
@@ -48,18 +45,18 @@ pub data Judgement : Type 0 where
   accepted : ℕ → ℕ → Judgement
   refused : Fault → Judgement
 
-unfoldable pub judgement_of : Verdict → Judgement
-judgement_of (Verdicts.Accepted n k) = accepted n k
-judgement_of (Verdicts.Refused r) = refused (fault_of r)
+unfoldable pub judgement_of : Result Contents Refusal → Judgement
+judgement_of (Ok held) = accepted held.instructions held.targets
+judgement_of (Err r) = refused (fault_of r)
 
 -- a run's answer: how it ended and how many steps it made, or the refusal; "A refused run reports 0 steps."
 pub data Report : Type 0 where
   ended : Ending → ℕ → Report
   rejected : Fault → ℕ → Report
 
-abbrev pub reported : Completion → ℕ → Report
-reported (Completions.Ended e) steps = ended e steps
-reported (Completions.Refused r) steps = rejected (fault_of r) steps
+abbrev pub reported : Result Ending Refusal → ℕ → Report
+reported (Ok e) steps = ended e steps
+reported (Err r) steps = rejected (fault_of r) steps
 
 unfoldable pub report_of : Answer → Report
 report_of a = reported a.completion a.steps

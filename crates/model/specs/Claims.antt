@@ -1,8 +1,6 @@
 -- Document 02, ticket 3, "Work out the claims for us": sweep after sweep over the code, and what is answered of a file.
 -- Assumes nothing.
-use Rattle.std.specs.Prelude.{ℕ, zero, suc, ◌+◌, ◌*◌, min, max, Bool, true, false, cond, not, ◌&&◌, ◌||◌, List, [], ◌∷◌, ◌++◌, map, leb, ltb, eqb, length, get_or, replicate, take, drop}
-use Rattle.std.proofs.Math.Option
-use Rattle.std.proofs.Math.Option.{Option, none, some}
+use Rattle.std.specs.Prelude.{ℕ, zero, suc, ◌+◌, ◌*◌, min, max, Bool, true, false, cond, not, ◌&&◌, ◌||◌, List, [], ◌∷◌, ◌++◌, map, leb, ltb, eqb, length, get_or, replicate, take, drop, option_map, unwrap_or, Option, None, Some}
 use Rattle.model.specs.declared.Range.{Range}
 use Rattle.model.specs.declared.Ranges.{Ranges}
 use Rattle.model.specs.declared.Target.{Target}
@@ -36,15 +34,15 @@ fresh i indirect claim = entry i indirect claim (replicate 8 0) (replicate 8 fal
 
 -- "Open doors are reached with their fixed claim; inner ones begin unreached.": the claims of inner ones are ignored
 abbrev pub begun : Target → Entry
-begun t = fresh t.index t.indirect (cond t.indirect (some t.claim) none)
+begun t = fresh t.index t.indirect (cond t.indirect (Some t.claim) None)
 
 -- the target at the end, when all are reached
 abbrev pub finished : Entry → Target
-finished e = record { index = e.index; indirect = e.indirect; claim = Option.get_or e.claim unknown }
+finished e = record { index = e.index; indirect = e.indirect; claim = unwrap_or e.claim unknown }
 
 unfoldable pub entry_at : List Entry → ℕ → Option Entry
-entry_at [] i = none
-entry_at (e ∷ es) i = elim (eqb e.index i) [ true ↦ some e | false ↦ entry_at es i ]
+entry_at [] i = None
+entry_at (e ∷ es) i = elim (eqb e.index i) [ true ↦ Some e | false ↦ entry_at es i ]
 
 -- ---- an edge: "widens the inner door at the end of each edge to the smallest covering range, at once"
 
@@ -62,14 +60,14 @@ unfoldable pub grow : Entry → Ranges → Ranges → Entry
 grow e claim k =
     let after : ℕ → Range = λ r. widened (get_or e.grown r 0) (range_of claim r) (range_of k r) in
     entry e.index e.indirect
-    (some (record { lows = tabulate 0 8 (λ r. (after r).low); highs = tabulate 0 8 (λ r. (after r).high) }))
+    (Some (record { lows = tabulate 0 8 (λ r. (after r).low); highs = tabulate 0 8 (λ r. (after r).high) }))
     e.grown
     (tabulate 0 8 (λ r. get_or e.grows r false || not (within (range_of k r) (range_of claim r))))
 
 -- "the first reaching of its door is no growth, but a later widening in that same sweep is"
 abbrev pub reached : Entry → Option Ranges → Ranges → Entry
-reached e none k = fresh e.index e.indirect (some k)
-reached e (some claim) k = grow e claim k
+reached e None k = fresh e.index e.indirect (Some k)
+reached e (Some claim) k = grow e claim k
 
 unfoldable pub reach_at : List Entry → ℕ → Ranges → List Entry
 reach_at [] to k = []
@@ -98,27 +96,27 @@ pub record Sweep : Type 0 where
 
 -- "At a door it takes the claim."; none is at an unreached one
 abbrev pub claim_else : Option Ranges → Option Entry → Option Ranges
-claim_else k none = k
-claim_else k (some e) = e.claim
+claim_else k None = k
+claim_else k (Some e) = e.claim
 
 -- "A branch's taken edge comes before its next one. The verifier's rules N and B apply."
 abbrev pub along_taken : Program → ℕ → Ranges → Option ℕ → Table → Table
-along_taken p i k none t = t
-along_taken p i k (some to) t = arrive to (after_taken (shape_at p i) k) t
+along_taken p i k None t = t
+along_taken p i k (Some to) t = arrive to (after_taken (shape_at p i) k) t
 
 abbrev pub along_next : Program → ℕ → Ranges → Bool → Table → Sweep
-along_next p i k false t = record { known = none; table = t }
+along_next p i k false t = record { known = None; table = t }
 along_next p i k true t =
-    let next = after_next (region_range p.layout) (shape_at p i) k in record { known = some next; table = arrive (i + 1) next t }
+    let next = after_next (region_range p.layout) (shape_at p i) k in record { known = Some next; table = arrive (i + 1) next t }
 
 -- passed over are "instructions with no way in or behind an unreached door"
 unfoldable pub visit : Program → ℕ → Option Ranges → Table → Sweep
-visit p i none t = record { known = none; table = t }
-visit p i (some k) t = along_next p i k (traits_at p i).falls (along_taken p i k (traits_at p i).names t)
+visit p i None t = record { known = None; table = t }
+visit p i (Some k) t = along_next p i k (traits_at p i).falls (along_taken p i k (traits_at p i).names t)
 
 -- the sweep over the first i instructions, "starting with anything"
 unfoldable pub sweep : Program → List Entry → ℕ → Sweep
-sweep p es zero = record { known = some starting_ranges; table = record { entries = es; changed = false } }
+sweep p es zero = record { known = Some starting_ranges; table = record { entries = es; changed = false } }
 sweep p es (suc i) =
     let before = sweep p es i in
     visit p i (claim_else before.known (entry_at before.table.entries i)) before.table
@@ -142,11 +140,11 @@ counted e = entry e.index e.indirect e.claim (tabulate 0 8 (growth e)) (replicat
 
 -- "the lowest unreached door is given anything"; none where none is left
 abbrev pub given_or : Entry → List Entry → Option Ranges → Option (List Entry) → Option (List Entry)
-given_or e es none later = some (fresh e.index e.indirect (some unknown) ∷ es)
-given_or e es (some claim) later = Option.map (λ (es' : List Entry). e ∷ es') later
+given_or e es None later = Some (fresh e.index e.indirect (Some unknown) ∷ es)
+given_or e es (Some claim) later = option_map (λ (es' : List Entry). e ∷ es') later
 
 unfoldable pub given : List Entry → Option (List Entry)
-given [] = none
+given [] = None
 given (e ∷ es) = given_or e es e.claim (given es)
 
 -- the entries at the end, and the sweeps made
@@ -161,8 +159,8 @@ sweeping p zero made es = record { entries = es; sweeps = made }
 sweeping p (suc most) made es = elim (swept p es).changed [
   | true ↦ sweeping p most (suc made) (map counted (swept p es).entries)
   | false ↦ elim (given es) [
-    | none ↦ record { entries = es; sweeps = suc made }
-    | some es' ↦ sweeping p most (suc made) es'
+    | None ↦ record { entries = es; sweeps = suc made }
+    | Some es' ↦ sweeping p most (suc made) es'
   ]
 ]
 
@@ -216,8 +214,8 @@ judged_as file after (accepted n k) = record { judgement = accepted n k; bytes =
 judged_as file after (refused f) = record { judgement = refused f; bytes = file }
 
 abbrev pub after_sweeping : List ℕ → Option Fault → Answered
-after_sweeping file none = judged_as file (finished_file file) (judgement (finished_file file))
-after_sweeping file (some f) = record { judgement = refused f; bytes = file }
+after_sweeping file None = judged_as file (finished_file file) (judgement (finished_file file))
+after_sweeping file (Some f) = record { judgement = refused f; bytes = file }
 
 unfoldable pub work_out : List ℕ → Answered
 work_out file = after_sweeping file (first_fault (sweepable file))

@@ -1,8 +1,7 @@
 -- Demand 3 for a list of two calls, clause by clause, with nothing folded away: what `Safety` says of any list, written out.
 -- Assumes nothing.
-use Rattle.std.specs.Prelude.{ℕ, ◌+◌, ◌≤◌, ◌<◌, ◌≡◌, true, length, get_or}
+use Rattle.std.specs.Prelude.{ℕ, ◌+◌, ◌≤◌, ◌<◌, ◌≡◌, true, length, get_or, Some}
 use mathlib.Core.List.{List, [], ◌∷◌, ◌++◌, Memᴰ}
-use Rattle.std.proofs.Math.Option.{some}
 use Rattle.model.specs.declared.Ending.TheVariants.{Violated}
 use Rattle.model.specs.declared.Machine.{Machine}
 use Rattle.model.specs.declared.Target.{Target}
@@ -23,7 +22,7 @@ Outside p memory c at =
 
 -- the registers lie within the claim of the target that a record is at, if it is at one
 abbrev pub WithinClaim : Program → Machine → Type 0
-WithinClaim p m = (t : Target) → target_at p.targets m.pc ≡ some t → (r : ℕ) → r < 8
+WithinClaim p m = (t : Target) → target_at p.targets m.pc ≡ Some t → (r : ℕ) → r < 8
     → (low t.claim r ≤ reg m.registers r) × (reg m.registers r ≤ high t.claim r)
 
 -- the two calls of the walk
@@ -52,7 +51,7 @@ pub record TwoSafe (p : Program) (m : Machine) (start : List ℕ) (c d : Call) (
   pub claim_at_start : WithinClaim p m
   pub claim : (x : Step) → LoggedIn w v x → WithinClaim p x.machine
   -- "nothing has strayed"
-  pub inside : (x : Step) → LoggedIn w v x → x.ending ≡ some Violated → ⊥
+  pub inside : (x : Step) → LoggedIn w v x → x.ending ≡ Some Violated → ⊥
   pub first_inside : (n : ℕ) → s.report ≡ ended Violated n → ⊥
   pub second_inside : (n : ℕ) → t.report ≡ ended Violated n → ⊥
   -- "no run has changed memory outside its region": at the end of each step, and of each call

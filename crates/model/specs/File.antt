@@ -1,7 +1,5 @@
 -- The module file: fields, layout, instructions and targets, and refusals 1 to 7 in their order. Assumes nothing.
-use Rattle.std.specs.Prelude.{ℕ, zero, suc, ◌+◌, ◌*◌, ◌/◌, ◌%◌, ◌^◌, Bool, true, false, cond, not, ◌&&◌, ◌||◌, List, [], ◌∷◌, ◌++◌, leb, ltb, eqb, length, get_or, take, drop}
-use Rattle.std.proofs.Math.Option
-use Rattle.std.proofs.Math.Option.{Option, none, some, map}
+use Rattle.std.specs.Prelude.{ℕ, zero, suc, ◌+◌, ◌*◌, ◌/◌, ◌%◌, ◌^◌, Bool, true, false, cond, not, ◌&&◌, ◌||◌, List, [], ◌∷◌, ◌++◌, leb, ltb, eqb, length, get_or, take, drop, option_map, unwrap_or, Option, None, Some}
 use Rattle.model.specs.declared.Instruction.{Instruction}
 use Rattle.model.specs.declared.Instruction.TheVariants.{Halt, Set, Copy, Add, Addi, Sub, Andi, Guard, Shr, Sar, Load, Store, Jump, Branch, Check, Jumpr}
 use Rattle.model.specs.declared.Layout.{Layout}
@@ -63,8 +61,8 @@ field file at tag =
 
 -- "The field reader hands back the very stretch of module bytes that is the field's value."; none of a field that is refused
 abbrev pub unless_fault : Option Fault → List ℕ → List ℕ
-unless_fault none bytes = bytes
-unless_fault (some f) bytes = []
+unless_fault None bytes = bytes
+unless_fault (Some f) bytes = []
 
 unfoldable pub field_value : List ℕ → ℕ → ℕ → List ℕ
 field_value file at tag =
@@ -127,20 +125,20 @@ is_unused x = eqb x 0
 
 -- "For load and store w is 1, 2 or 4."
 abbrev pub width_of : ℕ → Option Width
-width_of w = get_or (none ∷ some One ∷ some Two ∷ none ∷ some Four ∷ []) w none
+width_of w = get_or (None ∷ Some One ∷ Some Two ∷ None ∷ Some Four ∷ []) w None
 
 -- document 02, ticket 2: "Load gets two more widths: w 129 and w 130"; "Store stays with 1, 2 and 4."; "6 no longer rejects these two
 -- widths on a load."
 abbrev pub load_width_of : ℕ → Option LoadWidth
-load_width_of w = cond (eqb w 129) (some SignedOne) (cond (eqb w 130) (some SignedTwo) (map Unsigned (width_of w)))
+load_width_of w = cond (eqb w 129) (Some SignedOne) (cond (eqb w 130) (Some SignedTwo) (option_map Unsigned (width_of w)))
 
 -- "For branch w is 0 (a = b), 1 (a < b unsigned) or 2 (a < b signed)."
 abbrev pub test_of : ℕ → Option Test
-test_of w = get_or (some Equal ∷ some Below ∷ some SignedBelow ∷ []) w none
+test_of w = get_or (Some Equal ∷ Some Below ∷ Some SignedBelow ∷ []) w None
 
 abbrev pub provided : Bool → Option Instruction → Option Instruction
 provided true i = i
-provided false i = none
+provided false i = None
 
 -- "The opcode decides which of the bytes a, b, w and imm are used; unused ones are zero.": which operands are there, and
 -- within their ranges (where w is a width or a test it is looked up by itself)
@@ -168,27 +166,27 @@ has_a_b_w_imm a b = is_register a && is_register b
 -- one row an opcode, in order
 unfoldable pub rows : ℕ → ℕ → ℕ → ℕ → List (Option Instruction)
 rows a b w imm =
-    provided (has_nothing a b w imm) (some Halt)
-    ∷ provided (has_a_imm a b w) (some (Set a imm))
-    ∷ provided (has_a_b a b w imm) (some (Copy a b))
-    ∷ provided (has_a_b a b w imm) (some (Add a b))
-    ∷ provided (has_a_imm a b w) (some (Addi a (signed imm)))
-    ∷ provided (has_a_b a b w imm) (some (Sub a b))
-    ∷ provided (has_a_imm a b w) (some (Andi a imm))
-    ∷ provided (has_a a b w imm) (some (Guard a))
-    ∷ provided (has_a_amount a b w imm) (some (Shr a w))
-    ∷ provided (has_a_amount a b w imm) (some (Sar a w))
-    ∷ provided (has_a_b_w_imm a b) (map (λ (v : LoadWidth). Load a b v (signed imm)) (load_width_of w))
-    ∷ provided (has_a_b_w_imm a b) (map (λ (v : Width). Store a b v (signed imm)) (width_of w))
-    ∷ provided (has_imm a b w) (some (Jump imm))
-    ∷ provided (has_a_b_w_imm a b) (map (λ (t : Test). Branch a b t imm) (test_of w))
-    ∷ provided (has_a a b w imm) (some (Check a))
-    ∷ provided (has_a a b w imm) (some (Jumpr a))
+    provided (has_nothing a b w imm) (Some Halt)
+    ∷ provided (has_a_imm a b w) (Some (Set a imm))
+    ∷ provided (has_a_b a b w imm) (Some (Copy a b))
+    ∷ provided (has_a_b a b w imm) (Some (Add a b))
+    ∷ provided (has_a_imm a b w) (Some (Addi a (signed imm)))
+    ∷ provided (has_a_b a b w imm) (Some (Sub a b))
+    ∷ provided (has_a_imm a b w) (Some (Andi a imm))
+    ∷ provided (has_a a b w imm) (Some (Guard a))
+    ∷ provided (has_a_amount a b w imm) (Some (Shr a w))
+    ∷ provided (has_a_amount a b w imm) (Some (Sar a w))
+    ∷ provided (has_a_b_w_imm a b) (option_map (λ (v : LoadWidth). Load a b v (signed imm)) (load_width_of w))
+    ∷ provided (has_a_b_w_imm a b) (option_map (λ (v : Width). Store a b v (signed imm)) (width_of w))
+    ∷ provided (has_imm a b w) (Some (Jump imm))
+    ∷ provided (has_a_b_w_imm a b) (option_map (λ (t : Test). Branch a b t imm) (test_of w))
+    ∷ provided (has_a a b w imm) (Some (Check a))
+    ∷ provided (has_a a b w imm) (Some (Jumpr a))
     ∷ []
 
 -- none for an "opcode above 15, operand out of range, unused byte not zero"
 unfoldable pub decode : ℕ → ℕ → ℕ → ℕ → ℕ → Option Instruction
-decode op a b w imm = get_or (rows a b w imm) op none
+decode op a b w imm = get_or (rows a b w imm) op None
 
 -- an instruction as it stands in a table: its bytes op, a, b, w and its imm, as numbers
 pub record InstructionRow : Type 0 where
@@ -329,7 +327,7 @@ sweepable = readable_by is_placed_target
 unfoldable pub program_of : Layout → List ℕ → List ℕ → Program
 program_of l code targets = record {
   layout = l;
-  code = tabulate 0 (instruction_count code) (λ i. Option.get_or (instruction_in code i) Halt);
+  code = tabulate 0 (instruction_count code) (λ i. unwrap_or (instruction_in code i) Halt);
   targets = tabulate 0 (target_count targets) (target_in targets);
 }
 

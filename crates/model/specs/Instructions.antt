@@ -1,7 +1,6 @@
 -- The sixteen instructions: document 01's table, both columns, and what else the rules ask of an instruction.
 -- Assumes nothing.
-use Rattle.std.specs.Prelude.{ℕ, ◌+◌, ◌-◌, ◌*◌, ◌/◌, ◌%◌, ◌^◌, min, Bool, true, false, List, ltb, eqb, ℤ, pos, ◌+ℤ◌, ◌-ℤ◌, get_or}
-use Rattle.std.proofs.Math.Option.{Option, none, some}
+use Rattle.std.specs.Prelude.{ℕ, ◌+◌, ◌-◌, ◌*◌, ◌/◌, ◌%◌, ◌^◌, min, Bool, true, false, List, ltb, eqb, ℤ, pos, ◌+ℤ◌, ◌-ℤ◌, get_or, Option, None, Some}
 use Rattle.std.proofs.Math.IntN.{sub_ℕ}
 use Rattle.std.specs.Int.Signed.{lt_z}
 use Rattle.model.specs.declared.Instruction.{Instruction}
@@ -116,14 +115,14 @@ abbrev pub has : Option Access → Option ℕ → Option ℕ → Option ℕ → 
 has ac n g k f = record { access = ac; names = n; goes_by = g; looks_at = k; falls = f }
 
 abbrev pub traits : Shape → Traits
-traits stops = has none none none none false
-traits (assigns a value ranged) = has none none none none true
-traits (loads a b v imm) = has (some (load_access b v imm)) none none none true
-traits (stores a ac) = has (some ac) none none none true
-traits (jumps to) = has none (some to) none none false
-traits (branches test a b to) = has none (some to) none none true
-traits (checks a) = has none none none (some a) true
-traits (jumps_via a) = has none none (some a) none false
+traits stops = has None None None None false
+traits (assigns a value ranged) = has None None None None true
+traits (loads a b v imm) = has (Some (load_access b v imm)) None None None true
+traits (stores a ac) = has (Some ac) None None None true
+traits (jumps to) = has None (Some to) None None false
+traits (branches test a b to) = has None (Some to) None None true
+traits (checks a) = has None None None (Some a) true
+traits (jumps_via a) = has None None (Some a) None false
 
 -- the pointers from which an access of w bytes at imm lies in the region, by exact sums: from DB − imm to DL − w + 1 − imm, whole
 -- numbers that need not be words

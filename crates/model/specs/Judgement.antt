@@ -1,6 +1,5 @@
 -- What the verifier demands: rules 8 to 13 at each instruction, and the whole judgement of a file. Assumes nothing.
-use Rattle.std.specs.Prelude.{ℕ, zero, suc, ◌+◌, ◌-◌, Bool, true, not, ◌&&◌, ◌||◌, List, [], ◌∷◌, ◌++◌, eqb, ℤ, pos, ◌+ℤ◌, length}
-use Rattle.std.proofs.Math.Option.{Option, none, some}
+use Rattle.std.specs.Prelude.{ℕ, zero, suc, ◌+◌, ◌-◌, Bool, true, not, ◌&&◌, ◌||◌, List, [], ◌∷◌, ◌++◌, eqb, ℤ, pos, ◌+ℤ◌, length, Option, None, Some}
 use Rattle.std.specs.Int.Signed.{le_z}
 use Rattle.model.specs.declared.Layout.{Layout}
 use Rattle.model.specs.declared.Range.{Range}
@@ -25,8 +24,8 @@ abbrev pub starting_ranges : Ranges
 starting_ranges = unknown
 
 abbrev pub claim_or : Ranges → Option Target → Ranges
-claim_or k none = k
-claim_or k (some t) = t.claim
+claim_or k None = k
+claim_or k (Some t) = t.claim
 
 unfoldable pub known_at : Program → ℕ → Ranges
 known_at p zero = claim_or starting_ranges (target_at p.targets 0)
@@ -48,7 +47,7 @@ is_reachable p (suc i) = (traits_at p i).falls || is_target p.targets (suc i)
 
 -- 9, unchecked jump: "jumpr without check of the same register just before it, or itself a door"
 abbrev pub checked_before : Program → ℕ → Option ℕ
-checked_before p zero = none
+checked_before p zero = None
 checked_before p (suc i) = (traits_at p i).looks_at
 
 unfoldable pub is_checked : Program → ℕ → Bool
@@ -111,8 +110,8 @@ first_broken file = first_fault (obligations file)
 
 -- the verifier's answer
 abbrev pub concluded : List ℕ → Option Fault → Judgement
-concluded file none = accepted (instruction_count (code_in file)) (target_count (targets_in file))
-concluded file (some f) = refused f
+concluded file None = accepted (instruction_count (code_in file)) (target_count (targets_in file))
+concluded file (Some f) = refused f
 
 unfoldable pub judgement : List ℕ → Judgement
 judgement file = concluded file (first_broken file)

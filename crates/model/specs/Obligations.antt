@@ -1,8 +1,7 @@
 -- What is judged, in which order, and what the answer is: "the refusal names the first rule broken and where".
 -- Everything that is judged, from a field's header to an edge's ranges, is an obligation; the lists of them, in File,
 -- Judgement and Run, are document 01's order. Assumes nothing.
-use Rattle.std.specs.Prelude.{ℕ, zero, suc, ◌≡◌, Bool, true, false, List, [], ◌∷◌, ◌++◌}
-use Rattle.std.proofs.Math.Option.{Option, none, some}
+use Rattle.std.specs.Prelude.{ℕ, zero, suc, ◌≡◌, Bool, true, false, List, [], ◌∷◌, ◌++◌, Option, None, Some}
 
 -- a refusal in document 01's terms: the number of its table, and the place
 pub record Fault : Type 0 where
@@ -23,10 +22,10 @@ owes number place met = record { fault = fault number place; met = met }
 -- the fault of the first obligation that is not met; none where all are met
 abbrev pub fault_unless : Bool → Fault → Option Fault → Option Fault
 fault_unless true f later = later
-fault_unless false f later = some f
+fault_unless false f later = Some f
 
 unfoldable pub first_fault : List Obligation → Option Fault
-first_fault [] = none
+first_fault [] = None
 first_fault (o ∷ os) = let later = first_fault os in fault_unless o.met o.fault later
 
 -- the obligations of f i, then of f (i + 1), and so on, for n indexes

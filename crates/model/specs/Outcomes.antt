@@ -1,7 +1,6 @@
 -- The known outcomes that are proved, P1 to P12 and those of document 02's tickets: what the definitions give, and what the documents
 -- say. The claims that the two agree in every row are `KnownOutcomes` and `KnownRequests` in Promises. Assumes nothing.
-use Rattle.std.specs.Prelude.{ℕ, zero, suc, ◌+◌, ◌-◌, true, false, List, [], ◌∷◌, ◌++◌, map, ℤ, pos, negsuc, get_or, replicate}
-use Rattle.std.proofs.Math.Option.{Option, none, some}
+use Rattle.std.specs.Prelude.{ℕ, zero, suc, ◌+◌, ◌-◌, true, false, List, [], ◌∷◌, ◌++◌, map, ℤ, pos, negsuc, get_or, replicate, Option, None, Some}
 use Rattle.std.proofs.Math.IntN.{suc_ℤ, pred_ℤ}
 use Rattle.model.specs.declared.Ending.{Ending}
 use Rattle.model.specs.declared.Instruction.{Instruction}
@@ -57,8 +56,8 @@ zeros = replicate 4096 0
 
 -- how a step ended, as a number; `running` where the run could go on
 abbrev pub ending_or : ℕ → Option Ending → ℕ
-ending_or n none = n
-ending_or n (some e) = ending_number e
+ending_or n None = n
+ending_or n (Some e) = ending_number e
 
 abbrev pub running : ℕ
 running = 9
@@ -101,8 +100,8 @@ taken i x y = shown (after_taken (shape i) (knowing x y))
 
 -- the judgement of code and of the targets after the first: 0 where it is kept, or the refusal's number and place
 abbrev pub fault_told : Option Fault → List ℕ
-fault_told none = 0 ∷ []
-fault_told (some f) = f.number ∷ f.place ∷ []
+fault_told None = 0 ∷ []
+fault_told (Some f) = f.number ∷ f.place ∷ []
 
 unfoldable pub judged : List Instruction → List Target → List ℕ
 unfolding all_below verified each_from first_fault at_index before_next is_reachable is_checked access_contained is_contained jumps_to_target stays_inside taken_kept next_kept lies_within known_at target_at shape after_next after_taken rule_n rule_w guard_range cut between
@@ -208,12 +207,12 @@ carried_of v raws = map (carried v) raws
 
 -- each w that rule 6 lets an opcode have, with r0 and r1, and how many bytes the access then has
 abbrev pub bytes_told : ℕ → Option Instruction → List ℕ
-bytes_told w none = []
-bytes_told w (some i) = access_told (traits (shape i)).access
+bytes_told w None = []
+bytes_told w (Some i) = access_told (traits (shape i)).access
   where
     access_told : Option Access → List ℕ
-    access_told none = []
-    access_told (some ac) = w ∷ bytes_of ac.width ∷ []
+    access_told None = []
+    access_told (Some ac) = w ∷ bytes_of ac.width ∷ []
 
 unfoldable pub widths_below : ℕ → ℕ → List ℕ
 unfolding decode rows shape

@@ -1,6 +1,5 @@
 -- A module as the verifier and the machine see it: layout, instructions, targets. Assumes nothing.
-use Rattle.std.specs.Prelude.{ℕ, Bool, true, false, List, [], ◌∷◌, eqb, get_or}
-use Rattle.std.proofs.Math.Option.{Option, none, some}
+use Rattle.std.specs.Prelude.{ℕ, Bool, true, false, List, [], ◌∷◌, eqb, get_or, Option, None, Some}
 use Rattle.model.specs.declared.Instruction.{Instruction}
 use Rattle.model.specs.declared.Instruction.TheVariants.{Halt}
 use Rattle.model.specs.declared.Layout.{Layout}
@@ -18,8 +17,8 @@ code_at p i = get_or p.code i Halt
 
 -- the target (door) at an index
 unfoldable pub target_at : List Target → ℕ → Option Target
-target_at [] i = none
-target_at (t ∷ ts) i = elim (eqb t.index i) [ true ↦ some t | false ↦ target_at ts i ]
+target_at [] i = None
+target_at (t ∷ ts) i = elim (eqb t.index i) [ true ↦ Some t | false ↦ target_at ts i ]
 
 abbrev pub is_target : List Target → ℕ → Bool
 is_target ts i = any_of (target_at ts i) (λ t. true)

@@ -1,8 +1,7 @@
 -- What is promised, in the order of the demands. Each promise is a type here; proofs/ (and the crate safety for demand 3, whose
 -- statement is in Safety) only show that each holds, so nothing there need be read. Assumes nothing.
-use Rattle.std.specs.Prelude.{ℕ, ◌+◌, ◌/◌, ◌%◌, ◌^◌, ◌≤◌, ◌<◌, ◌≡◌, true, false, ◌↔◌, ◌⊎◌, length, take, drop, replicate}
+use Rattle.std.specs.Prelude.{ℕ, ◌+◌, ◌/◌, ◌%◌, ◌^◌, ◌≤◌, ◌<◌, ◌≡◌, true, false, ◌↔◌, ◌⊎◌, length, take, drop, replicate, None, Some}
 use mathlib.Core.List.{List, [], ◌∷◌, ◌++◌, map, Memᴰ}
-use Rattle.std.proofs.Math.Option.{none, some}
 use Rattle.model.specs.declared.Ending.{Ending}
 use Rattle.model.specs.declared.Ending.TheVariants.{OutOfBudget}
 use Rattle.model.specs.declared.Instruction.{Instruction}
@@ -53,28 +52,28 @@ pub record RefusalKeeps : Type 0 where
 
 -- "A module is accepted if and only if it keeps every rule in document 01"
 pub record AcceptedIff : Type 0 where
-  pub iff : (file : List ℕ) → (first_broken file ≡ none) ↔ KeepsEveryRule file
+  pub iff : (file : List ℕ) → (first_broken file ≡ None) ↔ KeepsEveryRule file
 
 -- and a run is made if and only if it has what it asks for
 pub record RunIff : Type 0 where
   pub iff : (file : List ℕ) (m : Machine) (memory : List ℕ) (offset : ℕ)
-      → (first_fault (runnable file m memory offset) ≡ none) ↔ Runnable file m memory offset
+      → (first_fault (runnable file m memory offset) ≡ None) ↔ Runnable file m memory offset
 
 -- "Otherwise the refusal names the first rule broken and where."
 pub record RefusalFirst : Type 0 where
-  pub verdict : (file : List ℕ) (f : Fault) → first_broken file ≡ some f → FirstUnmet (obligations file) f
+  pub verdict : (file : List ℕ) (f : Fault) → first_broken file ≡ Some f → FirstUnmet (obligations file) f
   pub run : (file : List ℕ) (m : Machine) (memory : List ℕ) (offset : ℕ) (f : Fault)
-      → first_fault (runnable file m memory offset) ≡ some f → FirstUnmet (runnable file m memory offset) f
+      → first_fault (runnable file m memory offset) ≡ Some f → FirstUnmet (runnable file m memory offset) f
 
 -- "The longest module has 50,197 bytes."; and any longer file is judged by its first bytes
 pub record LongFiles : Type 0 where
-  pub longest : (file : List ℕ) → first_broken file ≡ none → length file ≤ 50197
+  pub longest : (file : List ℕ) → first_broken file ≡ None → length file ≤ 50197
   pub front : (file : List ℕ) (m : ℕ) → 50198 ≤ m → m ≤ length file → judgement (take m file) ≡ judgement file
 
 -- "A step that traps, is turned away or strays changes nothing; halt leaves the place as it is."; and in a file that keeps rules
 -- 1 to 7 every step stays inside the code and keeps the number of registers and of the region's bytes
 pub record StepsSteady : Type 0 where
-  pub ending : (p : Program) (m : Machine) (bs : List ℕ) (e : Ending) → (step p m bs).ending ≡ some e
+  pub ending : (p : Program) (m : Machine) (bs : List ℕ) (e : Ending) → (step p m bs).ending ≡ Some e
       → ((step p m bs).machine ≡ m) × ((step p m bs).region ≡ bs)
   pub inside : (file : List ℕ) → FileKept file → (m : Machine) (bs : List ℕ) → m.pc < instruction_count (code_in file)
       → ((step (program_in file) m bs).machine.pc < instruction_count (code_in file))
@@ -211,7 +210,7 @@ AreBytes file = (i : ℕ) → byte_at file i < 256
 pub record SweepsEnd : Type 0 where
   pub unchanged : (file : List ℕ) → AreBytes file → FilePlaced file
       → (swept (code_of (program_in file)) (worked_out (program_in file)).entries).changed ≡ false
-  pub none_left : (file : List ℕ) → AreBytes file → FilePlaced file → given (worked_out (program_in file)).entries ≡ none
+  pub none_left : (file : List ℕ) → AreBytes file → FilePlaced file → given (worked_out (program_in file)).entries ≡ None
   pub enough : (file : List ℕ) → AreBytes file → FilePlaced file → (most : ℕ) → most_sweeps (program_in file) ≤ most
       → sweeping (code_of (program_in file)) most 0 (map begun (program_in file).targets) ≡ worked_out (program_in file)
 
@@ -242,8 +241,8 @@ pub record InnerIgnored : Type 0 where
 
 -- a row that decodes is the row of what it decodes to, so an instruction that is decoded has one row and is what that decodes to
 pub record RowsDecoded : Type 0 where
-  pub one : (x : InstructionRow) (i : Instruction) → x.imm < modulus → decoded x ≡ some i → encoded i ≡ x
-  pub back : (x : InstructionRow) (i : Instruction) → x.imm < modulus → decoded x ≡ some i → decoded (encoded i) ≡ some i
+  pub one : (x : InstructionRow) (i : Instruction) → x.imm < modulus → decoded x ≡ Some i → encoded i ≡ x
+  pub back : (x : InstructionRow) (i : Instruction) → x.imm < modulus → decoded x ≡ Some i → decoded (encoded i) ≡ Some i
 
 -- what a host can hand over: each imm and each end of a claim is a word, each claim has eight ranges, and a target has no more than
 -- index, kind and claim
@@ -257,16 +256,16 @@ pub record AreTables (t : Tables) : Type 0 where
 -- the file that was read."
 pub record FilesWritten : Type 0 where
   -- tables that keep 3, 5, 6 and 7 have a file that the reader accepts, and it gives back those tables, as rows and decoded
-  pub some_file : (t : Tables) → AreTables t → first_fault (tables_owed t) ≡ none
+  pub some_file : (t : Tables) → AreTables t → first_fault (tables_owed t) ≡ None
       → AreBytes (file_of t) × FileKept (file_of t) × (tables_in (file_of t) ≡ t) × (program_in (file_of t) ≡ program_from t)
   -- the tables of any file that the reader accepts keep them, and the file of these tables is that file: no other has them
   pub one_file : (file : List ℕ) → AreBytes file → FileKept file
-      → AreTables (tables_in file) × (first_fault (tables_owed (tables_in file)) ≡ none) × (file_of (tables_in file) ≡ file)
+      → AreTables (tables_in file) × (first_fault (tables_owed (tables_in file)) ≡ None) × (file_of (tables_in file) ≡ file)
   -- nor has any other the same instructions and targets, decoded
   pub one_program : (file other : List ℕ) → AreBytes file → AreBytes other → FileKept file → FileKept other
       → program_in file ≡ program_in other → file ≡ other
   -- what is written is judged as its tables are
-  pub judged : (t : Tables) → AreTables t → first_fault (tables_owed t) ≡ none → judgement (file_of t) ≡ tables_judged t
+  pub judged : (t : Tables) → AreTables t → first_fault (tables_owed t) ≡ None → judgement (file_of t) ≡ tables_judged t
 
 -- "the writer's order is 3, 5, 6, 7, 16"; "so does all of it after a refusal"
 pub record WriterRefuses : Type 0 where

@@ -1,16 +1,15 @@
 -- Tests over what may be there, and over every number below a bound. Assumes nothing.
-use Rattle.std.specs.Prelude.{ℕ, zero, suc, Bool, true, false, ◌&&◌, ◌||◌}
-use Rattle.std.proofs.Math.Option.{Option, none, some}
+use Rattle.std.specs.Prelude.{ℕ, zero, suc, Bool, true, false, ◌&&◌, ◌||◌, Option, None, Some}
 
 -- if it is there, it passes
 abbrev pub all_of : {A : Type 0} → Option A → (A → Bool) → Bool
-all_of none f = true
-all_of (some x) f = f x
+all_of None f = true
+all_of (Some x) f = f x
 
 -- it is there, and passes
 abbrev pub any_of : {A : Type 0} → Option A → (A → Bool) → Bool
-any_of none f = false
-any_of (some x) f = f x
+any_of None f = false
+any_of (Some x) f = f x
 
 -- all numbers below n pass
 unfoldable pub all_below : ℕ → (ℕ → Bool) → Bool

@@ -1,7 +1,6 @@
 -- Every rule of document 01, stated rule by rule: what a module keeps where `first_broken` names no fault, and what a run asks for.
 -- Assumes nothing.
-use Rattle.std.specs.Prelude.{ℕ, suc, ◌+◌, ◌-◌, ◌*◌, ◌^◌, ◌≤◌, ◌<◌, ◌≡◌, true, false, List, ℤ, pos, ◌+ℤ◌, ◌≤ℤ◌, length}
-use Rattle.std.proofs.Math.Option.{Option, some}
+use Rattle.std.specs.Prelude.{ℕ, suc, ◌+◌, ◌-◌, ◌*◌, ◌^◌, ◌≤◌, ◌<◌, ◌≡◌, true, false, List, ℤ, pos, ◌+ℤ◌, ◌≤ℤ◌, length, Option, Some}
 use Rattle.model.specs.declared.Instruction.{Instruction}
 use Rattle.model.specs.declared.Layout.{Layout}
 use Rattle.model.specs.declared.Machine.{Machine}
@@ -37,7 +36,7 @@ pub record LayoutKept (l : Layout) : Type 0 where
 
 -- 6: what stands at an index decodes to an instruction
 abbrev pub InstructionKept : Option Instruction → Type 0
-InstructionKept decodes = (x : Instruction) × (decodes ≡ some x)
+InstructionKept decodes = (x : Instruction) × (decodes ≡ Some x)
 
 -- 7 but for the order of a claim's ends, in a module of n instructions
 pub record TargetPlaced (n : ℕ) (target : ℕ → TargetRow) (j : ℕ) : Type 0 where
@@ -73,7 +72,7 @@ Reachable p i = (j : ℕ) → i ≡ suc j → (traits_at p j).falls ≡ false �
 
 -- 9: a jumpr is no target, and a check of its register stands just before it
 abbrev pub Checked : Program → ℕ → Type 0
-Checked p i = (a : ℕ) → (traits_at p i).goes_by ≡ some a → (checked_before p i ≡ some a) × (is_target p.targets i ≡ false)
+Checked p i = (a : ℕ) → (traits_at p i).goes_by ≡ Some a → (checked_before p i ≡ Some a) × (is_target p.targets i ≡ false)
 
 -- 10: an access stays in the region and its guard zones, whatever the pointer holds of its range
 pub record Contained (l : Layout) (x : Range) (w : Width) (imm : ℤ) : Type 0 where
@@ -84,11 +83,11 @@ abbrev pub Allowed : Layout → Ranges → Access → Type 0
 Allowed l k ac = Contained l (range_of k ac.pointer) ac.width ac.displacement
 
 abbrev pub AccessContained : Program → ℕ → Type 0
-AccessContained p i = (ac : Access) → (traits_at p i).access ≡ some ac → Allowed p.layout (known_at p i) ac
+AccessContained p i = (ac : Access) → (traits_at p i).access ≡ Some ac → Allowed p.layout (known_at p i) ac
 
 -- 8: the index that a jump or branch names is a target
 abbrev pub JumpsToTarget : Program → ℕ → Type 0
-JumpsToTarget p i = (to : ℕ) → (traits_at p i).names ≡ some to → is_target p.targets to ≡ true
+JumpsToTarget p i = (to : ℕ) → (traits_at p i).names ≡ Some to → is_target p.targets to ≡ true
 
 -- 13: the last instruction does not go on to the next index
 abbrev pub StaysInside : Program → ℕ → Type 0
@@ -99,11 +98,11 @@ abbrev pub LiesWithin : Ranges → Ranges → Type 0
 LiesWithin k claim = (r : ℕ) → r < 8 → (low claim r ≤ low k r) × (high k r ≤ high claim r)
 
 abbrev pub TakenKept : Program → ℕ → Type 0
-TakenKept p i = (to : ℕ) → (traits_at p i).names ≡ some to → (t : Target) → target_at p.targets to ≡ some t
+TakenKept p i = (to : ℕ) → (traits_at p i).names ≡ Some to → (t : Target) → target_at p.targets to ≡ Some t
     → LiesWithin (taken_ranges p i) t.claim
 
 abbrev pub NextKept : Program → ℕ → Type 0
-NextKept p i = (traits_at p i).falls ≡ true → (t : Target) → target_at p.targets (i + 1) ≡ some t
+NextKept p i = (traits_at p i).falls ≡ true → (t : Target) → target_at p.targets (i + 1) ≡ Some t
     → LiesWithin (next_ranges p i) t.claim
 
 -- rules 8 to 13 at an index

@@ -1,6 +1,5 @@
 -- The run with a budget, on a region and on the box's whole memory. Assumes nothing.
-use Rattle.std.specs.Prelude.{ℕ, zero, suc, ◌+◌, ◌≡◌, List, [], ◌∷◌, ◌++◌, leb, ltb, length, take, drop}
-use Rattle.std.proofs.Math.Option.{Option, none, some}
+use Rattle.std.specs.Prelude.{ℕ, zero, suc, ◌+◌, ◌≡◌, List, [], ◌∷◌, ◌++◌, leb, ltb, length, take, drop, Option, None, Some}
 use Rattle.model.specs.declared.Ending.{Ending}
 use Rattle.model.specs.declared.Ending.TheVariants.{OutOfBudget}
 use Rattle.model.specs.declared.Machine.{Machine}
@@ -19,8 +18,8 @@ pub record Run : Type 0 where
 
 -- after a step that ends the run, nothing; after any other, the rest of the run
 abbrev pub followed : Step → Run → Option Ending → Run
-followed s rest none = record { ending = rest.ending; machine = rest.machine; region = rest.region; log = s ∷ rest.log }
-followed s rest (some e) = record { ending = e; machine = s.machine; region = s.region; log = s ∷ [] }
+followed s rest None = record { ending = rest.ending; machine = rest.machine; region = rest.region; log = s ∷ rest.log }
+followed s rest (Some e) = record { ending = e; machine = s.machine; region = s.region; log = s ∷ [] }
 
 -- "Spent means that the budget is used and the run could go on."
 unfoldable pub run : Program → ℕ → Machine → List ℕ → Run
@@ -68,8 +67,8 @@ runnable file m memory offset =
     ∷ [])
 
 abbrev pub unless_refused : Machine → List ℕ → Seen → Option Fault → Seen
-unless_refused m memory done none = done
-unless_refused m memory done (some f) = unchanged m memory f
+unless_refused m memory done None = done
+unless_refused m memory done (Some f) = unchanged m memory f
 
 unfoldable pub run_on : List ℕ → Machine → List ℕ → ℕ → ℕ → Seen
 run_on file m memory offset budget =

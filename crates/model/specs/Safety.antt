@@ -1,7 +1,6 @@
 -- Demand 3, stated: "a single claim about the whole list, not one for each run". Assumes nothing.
-use Rattle.std.specs.Prelude.{ℕ, ◌+◌, ◌≤◌, ◌<◌, ◌≡◌, true, ◌⊎◌, length, get_or}
+use Rattle.std.specs.Prelude.{ℕ, ◌+◌, ◌≤◌, ◌<◌, ◌≡◌, true, ◌⊎◌, length, get_or, None, Some}
 use mathlib.Core.List.{List, Memᴰ}
-use Rattle.std.proofs.Math.Option.{none, some}
 use Rattle.model.specs.declared.Ending.TheVariants.{Violated}
 use Rattle.model.specs.declared.Layout.{Layout}
 use Rattle.model.specs.declared.Machine.{Machine}
@@ -32,7 +31,7 @@ pub record Bytes (n : ℕ) (bs : List ℕ) : Type 0 where
 -- "It is fed an accepted module, a record at an open door with any registers, a lent memory and a list of items, perhaps none."
 pub record Fed (file : List ℕ) (m : Machine) (calls : List Call) : Type 0 where
   pub bytes : (i : ℕ) → byte_at file i < 256
-  pub accepted : first_broken file ≡ none
+  pub accepted : first_broken file ≡ None
   pub at_indirect : is_indirect (program_in file).targets m.pc ≡ true
   pub registers : EightWords m.registers
   pub written : (c : Call) → Memᴰ c calls → Bytes (program_in file).layout.size c.bytes
@@ -52,7 +51,7 @@ Permitted p (via_register to) = is_indirect p.targets to ≡ true
 
 -- "A record is at a door when its place is a door's index": there its registers lie within the claim
 pub record ClaimKept (p : Program) (m : Machine) : Type 0 where
-  pub kept : (t : Target) → target_at p.targets m.pc ≡ some t → (r : ℕ) → r < 8
+  pub kept : (t : Target) → target_at p.targets m.pc ≡ Some t → (r : ℕ) → r < 8
       → (low t.claim r ≤ reg m.registers r) × (reg m.registers r ≤ high t.claim r)
 
 -- "every byte reached for lies in the region or the trapping guard zones beside it, every jump has landed on a permitted door, the
@@ -61,7 +60,7 @@ pub record StepSafe (p : Program) (s : Step) : Type 0 where
   pub reached : (at : ℕ) → Memᴰ at s.reached → InZones p.layout at
   pub landing : Permitted p s.landing
   pub claim : ClaimKept p s.machine
-  pub inside : s.ending ≡ some Violated → ⊥
+  pub inside : s.ending ≡ Some Violated → ⊥
 
 -- ---- what is demanded of a call
 

@@ -1,6 +1,5 @@
 -- The listed step: access, places, what it reaches for and where it lands. Assumes nothing.
-use Rattle.std.specs.Prelude.{ℕ, zero, suc, ◌+◌, ◌-◌, Bool, cond, ◌&&◌, List, [], ◌∷◌, leb, ltb, pos, ◌+ℤ◌, length, set}
-use Rattle.std.proofs.Math.Option.{Option, none, some}
+use Rattle.std.specs.Prelude.{ℕ, zero, suc, ◌+◌, ◌-◌, Bool, cond, ◌&&◌, List, [], ◌∷◌, leb, ltb, pos, ◌+ℤ◌, length, set, Option, None, Some}
 use Rattle.model.specs.declared.Ending.{Ending}
 use Rattle.model.specs.declared.Ending.TheVariants.{Halted, Trapped, Denied, Violated}
 use Rattle.model.specs.declared.Instruction.{Instruction}
@@ -68,8 +67,8 @@ addresses_from at zero = []
 addresses_from at (suc w) = at ∷ addresses_from (suc at) w
 
 abbrev pub reaches : Option Access → List ℕ → List ℕ
-reaches none rs = []
-reaches (some ac) rs = addresses_from (address ac rs) (bytes_of ac.width)
+reaches None rs = []
+reaches (Some ac) rs = addresses_from (address ac rs) (bytes_of ac.width)
 
 -- "A jump, taken branch or jumpr lands on the index it goes to, even where it strays."
 pub data Landing : Type 0 where
@@ -88,11 +87,11 @@ pub record Step : Type 0 where
 
 -- "A step that traps, is turned away or strays changes nothing; halt leaves the place as it is."
 abbrev pub stays : Machine → List ℕ → List ℕ → Landing → Ending → Step
-stays m bs reached landing e = record { reached = reached; landing = landing; ending = some e; machine = m; region = bs }
+stays m bs reached landing e = record { reached = reached; landing = landing; ending = Some e; machine = m; region = bs }
 
 abbrev pub moves : List ℕ → List ℕ → List ℕ → Landing → ℕ → Step
 moves rs bs reached landing to =
-    record { reached = reached; landing = landing; ending = none; machine = record { registers = rs; pc = to }; region = bs }
+    record { reached = reached; landing = landing; ending = None; machine = record { registers = rs; pc = to }; region = bs }
 
 -- "A jump or taken branch goes to a door, else it strays. A jumpr goes to an open door, else it strays. Other steps go to the
 -- next index, and stray if that is n. Access and check are judged before the next place."

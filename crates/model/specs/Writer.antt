@@ -1,9 +1,7 @@
 -- Document 02, ticket 5, "Write the file": tables of layout, instructions and targets (doors), the file of them, and what the writer
 -- answers and leaves. Assumes nothing.
-use Rattle.std.specs.Prelude.{ℕ, ◌+◌, ◌*◌, ◌%◌, Bool, ◌&&◌, leb, eqb, length, get_or, drop, replicate}
+use Rattle.std.specs.Prelude.{ℕ, ◌+◌, ◌*◌, ◌%◌, Bool, ◌&&◌, leb, eqb, length, get_or, drop, replicate, unwrap_or, Option, None, Some}
 use mathlib.Core.List.{List, [], ◌∷◌, ◌++◌, map, flat_map}
-use Rattle.std.proofs.Math.Option
-use Rattle.std.proofs.Math.Option.{Option, none, some}
 use Rattle.model.specs.declared.Instruction.{Instruction}
 use Rattle.model.specs.declared.Instruction.TheVariants.{Halt, Set, Copy, Add, Addi, Sub, Andi, Guard, Shr, Sar, Load, Store, Jump, Branch, Check, Jumpr}
 use Rattle.model.specs.declared.Layout.{Layout}
@@ -84,7 +82,7 @@ target_of x = record { index = x.index; indirect = eqb x.kind 1; claim = x.claim
 unfoldable pub program_from : Tables → Program
 program_from t = record {
   layout = t.layout;
-  code = map (λ (x : InstructionRow). Option.get_or (decoded x) Halt) t.instructions;
+  code = map (λ (x : InstructionRow). unwrap_or (decoded x) Halt) t.instructions;
   targets = map target_of t.targets;
 }
 
@@ -147,8 +145,8 @@ writable t buffer = tables_owed t ++ (owes 16 0 (leb (length (file_of t)) (lengt
 
 -- the verdict on tables
 abbrev pub concluded_of : Tables → Option Fault → Judgement
-concluded_of t none = accepted (length t.instructions) (length t.targets)
-concluded_of t (some f) = refused f
+concluded_of t None = accepted (length t.instructions) (length t.targets)
+concluded_of t (Some f) = refused f
 
 unfoldable pub tables_judged : Tables → Judgement
 tables_judged t = concluded_of t (first_fault (tables_owed t ++ verified (program_from t)))
@@ -165,9 +163,9 @@ pub record Written : Type 0 where
 
 -- "it answers the file's length"; "Bytes of the lent buffer past the file keep their contents, and so does all of it after a refusal."
 abbrev pub written_unless : Tables → List ℕ → Option Fault → Written
-written_unless t buffer none =
+written_unless t buffer None =
     record { report = wrote (length (file_of t)); buffer = file_of t ++ drop (length (file_of t)) buffer }
-written_unless t buffer (some f) = record { report = unwritten f; buffer = buffer }
+written_unless t buffer (Some f) = record { report = unwritten f; buffer = buffer }
 
 unfoldable pub write : Tables → List ℕ → Written
 write t buffer = written_unless t buffer (first_fault (writable t buffer))

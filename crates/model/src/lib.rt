@@ -1,19 +1,32 @@
 // The types that the gatekeeper's crates share. What they mean is defined in specs/, beside the sentences of document 01.
 #![tactic(auto)]
 
-ghost use Rattle.std.specs.Prelude.{◌≡◌};
+ghost use Rattle.std.specs.Prelude.{◌≡◌, ◌≤◌};
 ghost use Rattle.model.specs.Answers.{rule_number, ending_number};
-ghost use Rattle.model.specs.Instructions.{width_read};
+ghost use Rattle.model.specs.Instructions.{bytes_of, width_read};
+ghost use Rattle.model.specs.Writer.{load_width_number, test_number};
+
+use std::fmt;
 
 // How many bytes a load or store moves.
 #[derive(Clone, Copy)]
 pub enum Width {
-    One,
-    Two,
-    Four,
+    One = 1,
+    Two = 2,
+    Four = 4,
 }
 
-// What a load reads and carries up: some bytes with zeros above them, or one or two with their sign.
+// The number of them.
+impl From<Width> for u32 {
+    ghost from_gives = { λ width bytes. (bytes ≡ bytes_of width) × (bytes ≤ 4) };
+
+    fn from(width: Width) -> u32 {
+        width as u32
+    }
+}
+
+// What a load reads and carries up: some bytes with zeros above them, or one or two with their sign. No width and a flag: four bytes
+// have no sign to carry.
 #[derive(Clone, Copy)]
 pub enum LoadWidth {
     Unsigned { width: Width },
@@ -32,12 +45,34 @@ pub fn width_read(width: LoadWidth) -> Width
     }
 }
 
+// Its number, as w of a load has it.
+impl From<LoadWidth> for u32 {
+    ghost from_gives = { λ width number. number ≡ load_width_number width };
+
+    fn from(width: LoadWidth) -> u32 {
+        match width {
+            LoadWidth::Unsigned { width } => u32::from(width),
+            LoadWidth::SignedOne => 129,
+            LoadWidth::SignedTwo => 130,
+        }
+    }
+}
+
 // What a branch tests of its registers a and b: a = b, a < b unsigned, a < b signed.
 #[derive(Clone, Copy)]
 pub enum Test {
-    Equal,
-    Below,
-    SignedBelow,
+    Equal = 0,
+    Below = 1,
+    SignedBelow = 2,
+}
+
+// Its number, as w of a branch has it.
+impl From<Test> for u32 {
+    ghost from_gives = { λ test number. number ≡ test_number test };
+
+    fn from(test: Test) -> u32 {
+        test as u32
+    }
 }
 
 // A decoded instruction: one of sixteen kinds, in the order of their opcodes, each with its own operands only.
@@ -110,7 +145,7 @@ pub enum Instruction {
 }
 
 // Where the region lies in the module's addresses, and how many guard bytes stand below and above it.
-#[derive(Clone, Copy)]
+#[derive(Clone, Copy, PartialEq, Eq)]
 pub struct Layout {
     pub base: u32,
     pub size: u32,
@@ -131,7 +166,7 @@ pub struct Pair {
     pub second: Range,
 }
 
-// A range for each of the eight registers: the verifier's knowledge, or a target's claim.
+// A range for each of the eight registers: the verifier's knowledge, or a target's claim. Two arrays, as document 01 names them.
 #[derive(Clone, Copy)]
 pub struct Ranges {
     pub lows: [u32; 8],
@@ -139,7 +174,7 @@ pub struct Ranges {
 }
 
 // A jump target (document 01: a door). An indirect one (open) may be jumped to through a register, a direct one (inner)
-// only by a jump or branch that names it. The claim is what the registers hold on arrival.
+// only by a jump or branch that names it: a flag, since there are two kinds. The claim is what the registers hold on arrival.
 #[derive(Clone, Copy)]
 pub struct Target {
     pub index: u16,
@@ -156,104 +191,102 @@ pub struct Machine {
     pub pc: u16,
 }
 
-// How a run ends: halted, trapped, turned away, strayed, spent.
-#[derive(Clone, Copy)]
+// How a run ends: halted, trapped, turned away, strayed, spent; each has its number.
+#[derive(Clone, Copy, PartialEq, Eq)]
 pub enum Ending {
-    Halted,
-    Trapped,
-    Denied,
-    Violated,
-    OutOfBudget,
+    Halted = 0,
+    Trapped = 1,
+    Denied = 2,
+    Violated = 3,
+    OutOfBudget = 4,
 }
 
-// The number of an ending.
-#[tactic(auto, unfolding(crate::specs::Answers::ending_number))]
-pub fn ending_number(ending: Ending) -> u32
-    ensures { result ≡ ending_number ending }
-{
-    match ending {
-        Ending::Halted => 0,
-        Ending::Trapped => 1,
-        Ending::Denied => 2,
-        Ending::Violated => 3,
-        Ending::OutOfBudget => 4,
+// Its number.
+impl From<Ending> for u32 {
+    ghost from_gives = { λ ending number. number ≡ ending_number ending };
+
+    #[tactic(auto, unfolding(crate::specs::Answers::ending_number))]
+    fn from(ending: Ending) -> u32 {
+        ending as u32
     }
 }
 
-// What a refusal is for, in the order of the numbers: 1 to 15 are document 01's, 16 is document 02's.
-#[derive(Clone, Copy)]
-pub enum Rule {
-    Truncated,
-    WrongTag,
-    BadLength,
-    TrailingBytes,
-    BadLayout,
-    BadInstruction,
-    BadTarget,
-    NoTarget,
-    UncheckedJump,
-    WildAccess,
-    BrokenClaim,
-    Unreachable,
-    FallsOff,
-    BadPc,
-    NoRoom,
-    NoSpace,
+impl fmt::Display for Ending {
+    fn fmt<W: fmt::Write>(&self, f: &mut fmt::Formatter<W>) -> fmt::Result {
+        f.write_str(match self {
+            Ending::Halted => "halted",
+            Ending::Trapped => "trapped",
+            Ending::Denied => "denied",
+            Ending::Violated => "violated",
+            Ending::OutOfBudget => "out of budget",
+        })
+    }
 }
 
-// The number of a rule.
-#[tactic(auto, unfolding(crate::specs::Answers::rule_number))]
-pub fn rule_number(rule: Rule) -> u32
-    ensures { result ≡ rule_number rule }
-{
-    match rule {
-        Rule::Truncated => 1,
-        Rule::WrongTag => 2,
-        Rule::BadLength => 3,
-        Rule::TrailingBytes => 4,
-        Rule::BadLayout => 5,
-        Rule::BadInstruction => 6,
-        Rule::BadTarget => 7,
-        Rule::NoTarget => 8,
-        Rule::UncheckedJump => 9,
-        Rule::WildAccess => 10,
-        Rule::BrokenClaim => 11,
-        Rule::Unreachable => 12,
-        Rule::FallsOff => 13,
-        Rule::BadPc => 14,
-        Rule::NoRoom => 15,
-        Rule::NoSpace => 16,
+// What a refusal is for, each with its number: 1 to 15 are document 01's, 16 is document 02's.
+#[derive(Clone, Copy, PartialEq, Eq)]
+pub enum Rule {
+    Truncated = 1,
+    WrongTag = 2,
+    BadLength = 3,
+    TrailingBytes = 4,
+    BadLayout = 5,
+    BadInstruction = 6,
+    BadTarget = 7,
+    NoTarget = 8,
+    UncheckedJump = 9,
+    WildAccess = 10,
+    BrokenClaim = 11,
+    Unreachable = 12,
+    FallsOff = 13,
+    BadPc = 14,
+    NoRoom = 15,
+    NoSpace = 16,
+}
+
+// Its number.
+impl From<Rule> for u32 {
+    ghost from_gives = { λ rule number. number ≡ rule_number rule };
+
+    #[tactic(auto, unfolding(crate::specs::Answers::rule_number))]
+    fn from(rule: Rule) -> u32 {
+        rule as u32
     }
 }
 
 // A refusal: the rule, and the offset or index where it is broken.
-#[derive(Clone, Copy)]
+#[derive(Clone, Copy, PartialEq, Eq)]
 pub struct Refusal {
     pub rule: Rule,
     pub place: u32,
 }
 
-// The verifier's answer: accepted, with the counts of instructions and targets, or the first refusal.
-#[derive(Clone, Copy)]
-pub enum Verdict {
-    Accepted { instructions: u32, targets: u32 },
-    Refused { refusal: Refusal },
+// What a module holds: how many instructions and targets.
+#[derive(Clone, Copy, PartialEq, Eq)]
+pub struct Contents {
+    pub instructions: u32,
+    pub targets: u32,
 }
 
-// What came of a call to run: it ended, or it was refused.
-#[derive(Clone, Copy)]
-pub enum Completion {
-    Ended { ending: Ending },
-    Refused { refusal: Refusal },
+impl Rule {
+    // The refusal by this rule, at an offset or index.
+    pub fn at(self, place: u32) -> Refusal
+        ensures { result ≡ record { rule = self; place = place } }
+    {
+        Refusal { rule: self, place }
+    }
 }
+
+// The verifier's answer: what the accepted module holds, or the first refusal.
+pub type Verdict = Result<Contents, Refusal>;
 
 // How many steps: a budget, and the count of steps made.
 pub type Steps = u32;
 
-// The answer to a call to run: what came of it, and how many steps were made.
+// The answer to a call to run: how it ended or the refusal, and how many steps were made.
 #[derive(Clone, Copy)]
 pub struct Answer {
-    pub completion: Completion,
+    pub completion: Result<Ending, Refusal>,
     pub steps: Steps,
 }
 

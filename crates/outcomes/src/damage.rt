@@ -1,30 +1,48 @@
 // Damage to a module file, one part at a time: lengths and layouts at the edges, operands and doors just out of range.
-use super::build::{
-    Ins, LOAD, MOST, claim, door_at, instruction, instruction_at, layout, put, put_half, wide,
+use super::build::Op::{
+    Add, Addi, Andi, Branch, Check, Guard, Halt, Jump, Jumpr, Load, Sar, Set, Shr, Store, Sub,
+    Unknown,
 };
-use super::plan::Plan;
-use super::random::{below, next, one_in};
-use std::num::{wrapping_add_u32, wrapping_sub_u32};
+use super::build::{Code, File, HALT, Ins, Layout, MOST, Op, instruction_at};
+use super::plan::Maker;
 
 // The layouts to try, right ones and wrong ones: the size below its least, at its most and beyond, the guard at its
 // most and one more, the top at 2^32 and one more, the base below the guard, no multiple of the size, and lowest.
-const BASES: [u32; 12] = [
-    536870912, 536870912, 536870912, 536870912, 536870912, 4294966784, 4294966784, 256, 256,
-    536871040, 536870912, 0,
+const LAYOUTS: [[u32; 3]; 12] = [
+    [536870912, 128, 16],
+    [536870912, 65536, 16],
+    [536870912, 131072, 16],
+    [536870912, 256, 4096],
+    [536870912, 256, 4097],
+    [4294966784, 256, 256],
+    [4294966784, 256, 257],
+    [256, 256, 256],
+    [256, 256, 257],
+    [536871040, 256, 16],
+    [536870912, 384, 16],
+    [0, 512, 0],
 ];
 
-const SIZES: [u32; 12] = [
-    128, 65536, 131072, 256, 256, 256, 256, 256, 256, 256, 384, 512,
+// Each opcode with the largest a, b and w that it may have, 0 where it is unused.
+const LARGEST: [Code; 17] = [
+    (Halt, [0, 0, 0, 0]),
+    (Set, [7, 0, 0, 0]),
+    (Op::Copy, [7, 7, 0, 0]),
+    (Add, [7, 7, 0, 0]),
+    (Addi, [7, 0, 0, 0]),
+    (Sub, [7, 7, 0, 0]),
+    (Andi, [7, 0, 0, 0]),
+    (Guard, [7, 0, 0, 0]),
+    (Shr, [7, 0, 31, 0]),
+    (Sar, [7, 0, 31, 0]),
+    (Load, [7, 7, 130, 0]),
+    (Store, [7, 7, 4, 0]),
+    (Jump, [0, 0, 0, 0]),
+    (Branch, [7, 7, 2, 0]),
+    (Check, [7, 0, 0, 0]),
+    (Jumpr, [7, 0, 0, 0]),
+    (Unknown, [0, 0, 0, 0]),
 ];
-
-const GUARDS: [u32; 12] = [16, 16, 16, 4096, 4097, 256, 257, 256, 257, 16, 16, 0];
-
-// The largest a, b and w of each opcode, 0 where it is unused; the last opcode is none.
-const A_MOST: [u32; 17] = [0, 7, 7, 7, 7, 7, 7, 7, 7, 7, 7, 7, 0, 7, 7, 7, 0];
-
-const B_MOST: [u32; 17] = [0, 0, 7, 7, 0, 7, 0, 0, 0, 0, 7, 7, 0, 7, 0, 0, 0];
-
-const W_MOST: [u32; 17] = [0, 0, 0, 0, 0, 0, 0, 0, 31, 31, 130, 4, 0, 2, 0, 0, 0];
 
 // Widths that carry the sign, and those beside them.
 const SIGNED: [u32; 8] = [129, 130, 129, 130, 129, 130, 128, 131];
@@ -32,120 +50,112 @@ const SIGNED: [u32; 8] = [129, 130, 129, 130, 129, 130, 128, 131];
 // Lengths that no field has, or none but a very long one.
 const LENGTHS: [u32; 4] = [0, 17476, 32776, 65535];
 
-// Where field 0, 1 or 2 begins.
-fn field_at(plan: Plan, seed: &mut u32) -> usize {
-    match below(seed, 3) {
-        0 => 0,
-        1 => 15,
-        _ => instruction_at(plan.n),
+impl Maker {
+    // Where a field begins, and how long it is.
+    fn some_field(&mut self, file: &File) -> (usize, u32) {
+        self.random.pick(&file.fields())
     }
-}
 
-fn right_length(plan: Plan, at: usize) -> u32 {
-    match at {
-        0 => 12,
-        15 => plan.n % 64 * 8,
-        _ => plan.k % 8 * 68,
+    fn bend_length(&mut self, file: &mut File) {
+        let (at, right) = self.some_field(file);
+        let length = match self.random.below(6) {
+            0 => right.wrapping_add(1),
+            1 => right.wrapping_sub(1),
+            2 => right.wrapping_add(8),
+            3 => right.wrapping_add(68),
+            _ => self.random.pick(&LENGTHS),
+        };
+        file.put::<2>(at.saturating_add(1), length);
     }
-}
 
-fn bend_length(buf: &mut [u8], plan: Plan, seed: &mut u32) {
-    let at = field_at(plan, seed) % 1024;
-    let right = right_length(plan, at);
-    let length = match below(seed, 6) {
-        0 => wrapping_add_u32(right, 1),
-        1 => wrapping_sub_u32(right, 1),
-        2 => wrapping_add_u32(right, 8),
-        3 => wrapping_add_u32(right, 68),
-        _ => LENGTHS[wide(next(seed)) % 4],
-    };
-    put_half(buf, at + 1, length);
-}
-
-fn bend_layout(buf: &mut [u8], seed: &mut u32) {
-    let i = wide(next(seed)) % 12;
-    layout(buf, BASES[i], SIZES[i], GUARDS[i]);
-}
-
-// An instruction whose operands are as large as they may be, but for one.
-fn bent_instruction(plan: Plan, seed: &mut u32) -> Ins {
-    let i = wide(next(seed)) % 17;
-    let bent = below(seed, 7);
-    let op = (i % 17) as u32;
-    Ins {
-        op,
-        a: wrapping_add_u32(A_MOST[i], if bent == 0 { 1 } else { 0 }),
-        b: wrapping_add_u32(B_MOST[i], if bent == 1 { 1 } else { 0 }),
-        w: match bent {
-            2 => wrapping_add_u32(W_MOST[i], 1),
-            3 => 3,
-            4 => 0,
-            _ => W_MOST[i],
-        },
-        imm: if bent == 5 { next(seed) } else { 0 },
+    // An instruction whose operands are as large as they may be, but for one.
+    fn bent_instruction(&mut self) -> Ins {
+        let mut x = Ins::from(self.random.pick(&LARGEST));
+        match self.random.below(7) {
+            0 => x.a = x.a.wrapping_add(1),
+            1 => x.b = x.b.wrapping_add(1),
+            2 => x.w = x.w.wrapping_add(1),
+            3 => x.w = 3,
+            4 => x.w = 0,
+            5 => x.imm = self.random.next(),
+            _ => {}
+        }
+        x
     }
-}
 
-fn bend_instruction(buf: &mut [u8], plan: Plan, seed: &mut u32) {
-    let i = below(seed, plan.n);
-    let bent = bent_instruction(plan, seed);
-    instruction(buf, i, bent);
-}
+    fn bend_instruction(&mut self, file: &mut File) {
+        let i = self.random.below(self.plan.n);
+        file.put_instruction(i, self.bent_instruction());
+    }
 
-// Such a width for whatever instruction stands there, or for a load or a store through r7 in its place.
-fn bend_width(buf: &mut [u8], plan: Plan, seed: &mut u32) {
-    let i = below(seed, plan.n);
-    let w = SIGNED[wide(next(seed)) % 8];
-    if one_in(seed, 2) {
-        return put(buf, instruction_at(i) + 3, w);
+    // A width that carries the sign for whatever instruction stands there, or for a load or a store through r7 in its
+    // place.
+    fn bend_width(&mut self, file: &mut File) {
+        let i = self.random.below(self.plan.n);
+        let w = self.random.pick(&SIGNED);
+        if self.random.one_in(2) {
+            return file.put::<1>(instruction_at(i) + 3, w);
+        }
+        let op = self.random.pick(&[Load, Store]);
+        file.put_instruction(
+            i,
+            Ins {
+                op,
+                b: 7,
+                w,
+                ..HALT
+            },
+        );
     }
-    let bent = Ins {
-        op: LOAD + next(seed) % 2,
-        a: 0,
-        b: 7,
-        w,
-        imm: 0,
-    };
-    instruction(buf, i, bent);
-}
 
-fn bend_claim(buf: &mut [u8], plan: Plan, j: u32, seed: &mut u32) {
-    let r = below(seed, 8);
-    match below(seed, 4) {
-        0 => claim(buf, plan.n, j, r, 5, 4),
-        1 => claim(buf, plan.n, j, r, 5, 5),
-        2 => claim(buf, plan.n, j, r, 0, MOST - 1),
-        _ => claim(buf, plan.n, j, r, 1, MOST),
+    fn bend_claim(&mut self, file: &mut File, j: u32) {
+        let r = self.random.below(8);
+        let claimed = match self.random.below(4) {
+            0 => (5, 4),
+            1 => (5, 5),
+            2 => (0, MOST - 1),
+            _ => (1, MOST),
+        };
+        file.put_claim(j, r, claimed);
     }
-}
 
-fn bend_door(buf: &mut [u8], plan: Plan, seed: &mut u32) {
-    let j = below(seed, plan.k);
-    let at = door_at(plan.n, j);
-    match below(seed, 4) {
-        0 => put_half(buf, at, below(seed, plan.n % 64 + 2)),
-        1 => put(buf, at + 2, below(seed, 4)),
-        2 => put(buf, at + 3, 1),
-        _ => bend_claim(buf, plan, j, seed),
+    fn bend_door(&mut self, file: &mut File) {
+        let j = self.random.below(self.plan.k);
+        let at = file.door_at(j);
+        match self.random.below(4) {
+            0 => file.put::<2>(at, self.some_index()),
+            1 => file.put::<1>(at + 2, self.random.below(4)),
+            2 => file.put::<1>(at + 3, 1),
+            _ => self.bend_claim(file, j),
+        }
     }
-}
 
-// Damages one file in three, and answers its new length.
-pub(crate) fn damage(buf: &mut [u8], plan: Plan, seed: &mut u32, length: usize) -> usize {
-    let whole = length % 1024;
-    if !one_in(seed, 3) {
-        return whole;
+    fn bend_byte(&mut self, file: &mut File) {
+        let at = self.random.next() as usize % 1024 % file.length.saturating_add(1);
+        file.put::<1>(at, self.random.next());
     }
-    match below(seed, 12) {
-        0 => put(buf, wide(next(seed)) % 1024 % (whole + 1), next(seed)),
-        1 => return wide(next(seed)) % (whole + 1),
-        2 => return whole + 1 + wide(next(seed)) % 8,
-        3 => put(buf, field_at(plan, seed), below(seed, 5)),
-        4 => bend_length(buf, plan, seed),
-        5 => bend_layout(buf, seed),
-        6 | 7 => bend_instruction(buf, plan, seed),
-        8 | 9 => bend_width(buf, plan, seed),
-        _ => bend_door(buf, plan, seed),
+
+    fn bend_tag(&mut self, file: &mut File) {
+        let (at, _) = self.some_field(file);
+        file.put::<1>(at, self.random.below(5));
     }
-    whole
+
+    // Damages one file in three.
+    pub fn damage(&mut self, file: &mut File) {
+        if !self.random.one_in(3) {
+            return;
+        }
+        let more = file.length.saturating_add(1);
+        match self.random.below(12) {
+            0 => self.bend_byte(file),
+            1 => file.length = self.random.next() as usize % more,
+            2 => file.length = more.saturating_add(self.random.below(8) as usize),
+            3 => self.bend_tag(file),
+            4 => self.bend_length(file),
+            5 => file.put_layout(Layout::from(self.random.pick(&LAYOUTS))),
+            6 | 7 => self.bend_instruction(file),
+            8 | 9 => self.bend_width(file),
+            _ => self.bend_door(file),
+        }
+    }
 }

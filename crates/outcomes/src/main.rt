@@ -2,10 +2,10 @@
 // answers. Claims are worked out for each of these modules, and for as many generated loops.
 #![tactic(auto)]
 
+mod answer;
 mod build;
 mod case;
 mod code;
-mod compare;
 mod damage;
 mod edge;
 mod garble;
@@ -17,39 +17,42 @@ mod loops;
 mod order;
 mod ours;
 mod plan;
-mod random;
 mod range;
 mod sample;
 mod score;
+mod side;
 mod space;
 mod start;
 mod step;
 mod tally;
+mod theirs;
 mod work;
 mod worked;
 
+use random::Random;
 use std::io;
+use tally::{Tally, Worked};
 
 const CASES: u32 = 3000;
 
+const SEED: u32 = 2463534242;
+
 // The tallies of verdicts and runs, and of claims that are worked out.
-fn cases(tally: &mut [u32; 256], worked: &mut [u32; 256]) {
-    let mut seed = 2463534242u32;
-    let mut other = 2463534242u32;
-    let mut left = CASES;
-    while 0 < left {
-        case::case(&mut seed, tally, worked);
-        loops::case(&mut other, worked);
-        left -= 1;
+fn cases(tally: &mut Tally, worked: &mut Worked) {
+    let mut modules = Random::new(SEED);
+    let mut loops = Random::new(SEED);
+    for _ in 0..CASES {
+        case::case(&mut modules, tally, worked);
+        loops::case(&mut loops, worked);
     }
 }
 
 fn main(rt: HostRuntime) -> io::Result<()> {
     known::known(&rt)?;
     groups::groups(&rt)?;
-    let mut tally = [0u32; 256];
-    let mut worked = [0u32; 256];
+    let mut tally = Tally::default();
+    let mut worked = Worked::default();
     cases(&mut tally, &mut worked);
-    tally::report(&rt, &tally)?;
-    tally::report_worked(&rt, &worked)
+    tally.report(&rt)?;
+    worked.report(&rt)
 }

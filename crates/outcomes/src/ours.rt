@@ -1,90 +1,76 @@
 // The implementation that is held to the reference: the proved verifier and machine, and the part that works out
-// claims, with their answers in the reference's form.
-use model::{Completion, Machine, Outcome, Verdict};
-use reference::{Judged, Ran};
+// claims. The functions and `From`s of this file and of theirs are one for each implementation: they call different crates, whose
+// types have nothing in common.
+use super::answer::{Counts, Ending, Fault, Ran, Start, Verdict};
+use model::{Contents, Machine, Outcome};
 
-fn judged(verdict: Verdict) -> Judged {
-    match verdict {
-        Verdict::Accepted {
-            instructions,
-            targets,
-        } => Judged {
-            accepted: true,
-            first: instructions,
-            second: targets,
-        },
-        Verdict::Refused { refusal } => {
-            let rule = refusal.rule;
-            Judged {
-                accepted: false,
-                first: model::rule_number(rule),
-                second: refusal.place,
-            }
+impl From<model::Refusal> for Fault {
+    fn from(refusal: model::Refusal) -> Fault {
+        Fault {
+            number: u32::from(refusal.rule),
+            place: refusal.place,
         }
     }
 }
 
-pub(crate) fn verify(file: &[u8]) -> Judged {
-    judged(verifier::verify::verify(file))
+impl From<model::Ending> for Ending {
+    fn from(ending: model::Ending) -> Ending {
+        match ending {
+            model::Ending::Halted => Ending::Halted,
+            model::Ending::Trapped => Ending::Trapped,
+            model::Ending::Denied => Ending::TurnedAway,
+            model::Ending::Violated => Ending::Strayed,
+            model::Ending::OutOfBudget => Ending::Spent,
+        }
+    }
 }
 
-pub(crate) fn work_out(file: &mut [u8]) -> Judged {
-    judged(claims::work_out::work_out(file))
+impl From<Contents> for Counts {
+    fn from(held: Contents) -> Counts {
+        Counts {
+            instructions: held.instructions,
+            doors: held.targets,
+        }
+    }
 }
 
-fn told(outcome: Outcome) -> Ran {
-    let after = outcome.machine;
-    let held = after.registers;
-    let answer = outcome.answer;
-    let completion = answer.completion;
-    match completion {
-        Completion::Ended { ending } => Ran {
-            registers: held,
-            place: after.pc,
-            refused: false,
-            code: model::ending_number(ending),
-            at: 0,
+pub(crate) fn verify(file: &[u8]) -> Verdict {
+    Ok(Counts::from(verifier::verify::verify(file)?))
+}
+
+pub(crate) fn work_out(file: &mut [u8]) -> Verdict {
+    Ok(Counts::from(claims::work_out::work_out(file)?))
+}
+
+// The machine as the host leaves it.
+fn machine_at(start: &Start) -> Machine {
+    Machine {
+        registers: start.registers,
+        pc: start.place,
+    }
+}
+
+impl From<Outcome> for Ran {
+    fn from(outcome: Outcome) -> Ran {
+        let Outcome { machine, answer } = outcome;
+        Ran {
+            registers: machine.registers,
+            place: machine.pc,
             steps: answer.steps,
-        },
-        Completion::Refused { refusal } => {
-            let rule = refusal.rule;
-            Ran {
-                registers: held,
-                place: after.pc,
-                refused: true,
-                code: model::rule_number(rule),
-                at: refusal.place,
-                steps: answer.steps,
-            }
+            outcome: match answer.completion {
+                Ok(ending) => Ok(Ending::from(ending)),
+                Err(refusal) => Err(Fault::from(refusal)),
+            },
         }
     }
 }
 
-pub(crate) fn run(
-    file: &[u8],
-    registers: [u32; 8],
-    place: u16,
-    memory: &mut [u8],
-    offset: usize,
-    budget: u32,
-) -> Ran {
-    let start = Machine {
-        registers,
-        pc: place,
-    };
-    told(machine::value::run(file, start, memory, offset, budget))
+pub(crate) fn run(file: &[u8], start: &Start, memory: &mut [u8]) -> Ran {
+    let from = machine_at(start);
+    Ran::from(machine::value::run(file, from, memory, start.offset, start.budget))
 }
 
-pub(crate) fn step(
-    file: &[u8],
-    registers: [u32; 8],
-    place: u16,
-    memory: &mut [u8],
-    offset: usize,
-) -> Ran {
-    let start = Machine {
-        registers,
-        pc: place,
-    };
-    told(machine::value::step(file, start, memory, offset))
+pub(crate) fn step(file: &[u8], start: &Start, memory: &mut [u8]) -> Ran {
+    let from = machine_at(start);
+    Ran::from(machine::value::step(file, from, memory, start.offset))
 }

@@ -1,25 +1,32 @@
 // What a generated module is to be: its layout, its doors, and which rule it comes close to breaking.
-ghost use Rattle.std.specs.Prelude.{◌<◌};
+use super::build::{Kind, Layout};
+use random::Random;
+use std::array;
 
-use super::build::wide;
-use super::random::{below, next, one_in};
+// The rules that a module may come close to breaking; with Any its code is random.
+#[derive(Clone, Copy, PartialEq, Eq)]
+pub enum Miss {
+    TooFar,
+    Between,
+    NoDoor,
+    RunsOff,
+    NoWayIn,
+    Narrow,
+    Unchecked,
+    Any,
+}
 
-// The rules that a module may come close to breaking, as its `miss`; 0 is none, and with ANY its code is random.
-pub const TOO_FAR: u32 = 1;
-
-pub const BETWEEN: u32 = 2;
-
-pub const NO_DOOR: u32 = 3;
-
-pub const RUNS_OFF: u32 = 4;
-
-pub const NO_WAY_IN: u32 = 5;
-
-pub const NARROW: u32 = 6;
-
-pub const UNCHECKED: u32 = 7;
-
-pub const ANY: u32 = 8;
+// The tables below are no columns of one: each is picked from by itself.
+const MISSES: [Miss; 8] = [
+    Miss::TooFar,
+    Miss::Between,
+    Miss::NoDoor,
+    Miss::RunsOff,
+    Miss::NoWayIn,
+    Miss::Narrow,
+    Miss::Unchecked,
+    Miss::Any,
+];
 
 // Each of these bases has room for the largest guard on both sides: at the bottom, around 2^31 and at the top too.
 const BASES: [u32; 8] = [
@@ -35,100 +42,108 @@ const BASES: [u32; 8] = [
 
 const GUARDS: [u32; 8] = [0, 3, 4, 7, 16, 250, 256, 4096];
 
-const GAPS: [u32; 8] = [1, 2, 2, 3, 3, 3, 4, 4];
+const GAPS: [u8; 8] = [1, 2, 2, 3, 3, 3, 4, 4];
 
-// The doors rise; those from k on are not written. Door j is open where bit j of `open` is 1. Where `tight`, an inner
-// door claims the region and `slack` bytes above it for r7, and 0 to half the guard for r6; else it claims anything.
+#[derive(Clone, Copy)]
+pub struct Door {
+    pub index: u32,
+    pub kind: Kind,
+}
+
+// In fixed memory: the doors' indexes rise; those from k on are drawn, but not written. Where `tight`, an inner door claims the region and `slack`
+// bytes above it for r7, and 0 to half the guard for r6; else it claims anything.
 #[derive(Clone, Copy)]
 pub struct Plan {
-    pub base: u32,
-    pub size: u32,
-    pub guard: u32,
+    pub layout: Layout,
     pub n: u32,
     pub k: u32,
-    pub doors: [u32; 4],
-    pub open: u32,
+    pub doors: [Door; 4],
     pub tight: bool,
     pub slack: u32,
-    pub miss: u32,
+    pub miss: Option<Miss>,
 }
 
-fn pick(table: &[u32; 8], seed: &mut u32) -> u32 {
-    table[wide(next(seed)) % 8]
-}
-
-fn gap(seed: &mut u32) -> u32
-    ensures { result < 16 }
-{
-    pick(&GAPS, seed) % 16
-}
-
-fn miss(seed: &mut u32) -> u32 {
-    if one_in(seed, 3) {
-        1 + below(seed, 8)
-    } else {
-        0
-    }
-}
-
-pub(crate) fn draw(seed: &mut u32) -> Plan {
-    let second = gap(seed);
-    let third = second + gap(seed);
-    let fourth = third + gap(seed);
-    let doors = [0, second, third, fourth];
-    let last = wide(next(seed)) % 4;
-    let n = doors[last] % 64 + 1 + below(seed, 4);
-    Plan {
-        base: pick(&BASES, seed),
+fn draw_layout(random: &mut Random) -> Layout {
+    Layout {
+        base: random.pick(&BASES),
         size: 256,
-        guard: pick(&GUARDS, seed),
-        n,
-        k: (last + 1) as u32,
-        doors,
-        open: next(seed) & next(seed) | 1,
-        tight: !one_in(seed, 4),
-        slack: if one_in(seed, 4) { 4 } else { 0 },
-        miss: miss(seed),
+        guard: random.pick(&GUARDS),
     }
 }
 
-// The index of a door.
-pub(crate) fn some_door(plan: Plan, seed: &mut u32) -> u32 {
-    let doors = plan.doors;
-    doors[wide(below(seed, plan.k)) % 4]
-}
-
-fn is_open(plan: Plan, j: u32) -> bool {
-    (plan.open >> (j % 4)) % 2 == 1
-}
-
-fn kind_of(plan: Plan, j: u32) -> u32 {
-    if j < plan.k {
-        if is_open(plan, j) { 2 } else { 1 }
+fn draw_miss(random: &mut Random) -> Option<Miss> {
+    if random.one_in(3) {
+        Some(random.pick(&MISSES))
     } else {
-        0
+        None
     }
 }
 
-// The number of a kind as the file has it.
-pub(crate) fn written_kind(plan: Plan, j: u32) -> u32 {
-    if is_open(plan, j) { 1 } else { 0 }
+fn draw_doors(indexes: [u32; 4], random: &mut Random) -> [Door; 4] {
+    let open = random.next() & random.next() | 1;
+    array::from_fn(|j| Door {
+        index: indexes[j],
+        kind: if (open >> j) % 2 == 1 {
+            Kind::Open
+        } else {
+            Kind::Inner
+        },
+    })
 }
 
-// What stands at an index: 0 no door, 1 an inner one, 2 an open one.
-pub(crate) fn kind_at(plan: Plan, i: u32) -> u32 {
-    let doors = plan.doors;
-    if doors[0] == i {
-        return kind_of(plan, 0);
+impl Plan {
+    fn draw(random: &mut Random) -> Plan {
+        let second = u32::from(random.pick(&GAPS));
+        let third = second + u32::from(random.pick(&GAPS));
+        let fourth = third + u32::from(random.pick(&GAPS));
+        let (k, last) = random.pick(&[(1, 0), (2, second), (3, third), (4, fourth)]);
+        let n = last % 64 + 1 + random.below(4);
+        Plan {
+            layout: draw_layout(random),
+            n,
+            k,
+            doors: draw_doors([0, second, third, fourth], random),
+            tight: !random.one_in(4),
+            slack: if random.one_in(4) { 4 } else { 0 },
+            miss: draw_miss(random),
+        }
     }
-    if doors[1] == i {
-        return kind_of(plan, 1);
+
+    // What door stands at an index.
+    pub fn kind_at(&self, i: u32) -> Option<Kind> {
+        let mut written = (0..self.k).zip(self.doors);
+        let (_, door) = written.find(|(_, door)| door.index == i)?;
+        Some(door.kind)
     }
-    if doors[2] == i {
-        return kind_of(plan, 2);
+
+    // Whether it comes close to breaking this rule.
+    pub fn misses(&self, rule: Miss) -> bool {
+        self.miss == Some(rule)
     }
-    if doors[3] == i {
-        return kind_of(plan, 3);
+}
+
+// Makes what is generated: the module of a plan, and what is done to it.
+#[derive(Clone, Copy)]
+pub struct Maker {
+    pub plan: Plan,
+    pub random: Random,
+}
+
+impl Maker {
+    // With a plan that is drawn too.
+    pub fn new(mut random: Random) -> Maker {
+        let plan = Plan::draw(&mut random);
+        Maker { plan, random }
     }
-    0
+
+    // The index of a door.
+    pub fn some_door(&mut self) -> u32 {
+        let j = self.random.below(self.plan.k) as usize;
+        self.plan.doors[j % 4].index
+    }
+
+    // An index, or one of the first two beyond them.
+    pub fn some_index(&mut self) -> u32 {
+        self.random.below(self.plan.n.wrapping_add(2))
+    }
 }

@@ -1,84 +1,113 @@
 // Single steps at the edges of the region, and to places far off. The region is 256 of 400 bytes, from byte 100 on.
-use super::build::{
-    BRANCH, CHECK, GUARD, Ins, JUMP, JUMPR, LOAD, SAR, SHR, STORE, carries_sign, door, front,
-    headers, instruction, layout, put_word, unary, wide,
-};
+use super::answer::Ending::{Spent, Strayed, Trapped, TurnedAway};
+use super::answer::{Ending, Fault, Ran, Start};
+use super::build::Op::{Branch, Check, Guard, Jump, Jumpr, Load, Sar, Shr, Store};
+use super::build::{File, Ins, Kind, Layout, Op, accesses, unary};
 use super::edge::{DB, DL};
-use super::ours;
-use super::score::{After, note, roomed, stepped};
-
-// How a run of one step ends.
-pub const TRAPPED: u32 = 1;
-
-const TURNED: u32 = 2;
-
-pub const STRAYED: u32 = 3;
-
-pub const SPENT: u32 = 4;
+use super::score::Score;
 
 // What r2 holds before a load, and before most stores.
 pub const HELD: u32 = 2762187425;
 
-// The region's first word, in most of these steps, and where it is in memory; the last is at LAST and holds the bytes 5,
-// 6, 7, 8.
-pub const FIRST: u32 = 100;
-
-pub const ONE_TO_FOUR: u32 = 67305985;
-
-const LAST: u32 = 352;
+// The region's first word in most of these steps, and its last, which holds the bytes 5, 6, 7, 8.
+const ONE_TO_FOUR: u32 = 67305985;
 
 pub const FIVE_TO_EIGHT: u32 = 134678021;
 
-// 3 instructions and 2 doors: 0 open, 1 inner.
-const LENGTH: usize = 181;
+const KEPT: [u32; 2] = [ONE_TO_FOUR, FIVE_TO_EIGHT];
 
-fn write_module(buf: &mut [u8], base: u32, guard: u32, x: Ins) {
-    layout(buf, base, 256, guard);
-    headers(buf, 3, 2);
-    instruction(buf, 0, x);
-    door(buf, 3, 0, 0, 1);
-    door(buf, 3, 1, 1, 0);
+// r0, r1 and r2, and the first and the last word of the region.
+#[derive(Clone, Copy)]
+pub struct State {
+    pub registers: [u32; 3],
+    pub words: [u32; 2],
 }
 
-fn fresh(first: u32) -> [u8; 400] {
-    let mut memory = [9u8; 400];
-    put_word(&mut memory, wide(FIRST), first);
-    put_word(&mut memory, wide(LAST), FIVE_TO_EIGHT);
-    memory
+impl State {
+    // With the words of most of these steps.
+    pub fn of(registers: [u32; 3]) -> State {
+        State {
+            registers,
+            words: KEPT,
+        }
+    }
+
+    fn all_registers(&self) -> [u32; 8] {
+        let [r0, r1, r2] = self.registers;
+        [r0, r1, r2, 0, 0, 0, 0, 0]
+    }
+
+    fn memory(&self) -> [u8; 400] {
+        let [first, last] = self.words;
+        let mut memory = [9u8; 400];
+        memory[100..104].copy_from_slice(&first.to_le_bytes());
+        memory[352..356].copy_from_slice(&last.to_le_bytes());
+        memory
+    }
 }
 
-// One step of x, with such a base and guard, from this in r1 and r2 and in the region's first word.
-pub(crate) fn step_in(
-    score: &mut [u32; 4],
-    base: u32,
-    guard: u32,
-    x: Ins,
-    r1: u32,
-    r2: u32,
-    first: u32,
-    after: After,
-) {
-    let mut buf = [0u8; 1024];
-    write_module(&mut buf, base, guard, x);
-    let mut left = fresh(first);
-    let mut right = fresh(first);
-    let mut memory = fresh(first);
-    put_word(&mut memory, wide(after.at), after.word);
-    let registers = [0, r1, r2, 0, 0, 0, 0, 0];
-    let y = ours::step(front(&buf, LENGTH), registers, 0, &mut left, 100);
-    let z = reference::run(front(&buf, LENGTH), registers, 0, &mut right, 100, 1);
-    note(
-        score,
-        stepped(y, after) && left == memory,
-        stepped(z, after) && right == memory,
-    );
+// The instruction, where the region begins and how wide the guard is; and what is before and after one step, where it
+// leads and how a run of it ends.
+#[derive(Clone, Copy)]
+pub struct Step {
+    pub x: Ins,
+    pub base: u32,
+    pub guard: u32,
+    pub before: State,
+    pub after: State,
+    pub place: u16,
+    pub ending: Ending,
 }
 
-pub(crate) fn step(score: &mut [u32; 4], x: Ins, r1: u32, r2: u32, first: u32, after: After) {
-    step_in(score, DB, 256, x, r1, r2, first, after);
+impl Step {
+    // A step in most of these modules that goes on to the next index.
+    pub fn of(x: Ins, before: State, after: State) -> Step {
+        Step {
+            x,
+            base: DB,
+            guard: 256,
+            before,
+            after,
+            place: 1,
+            ending: Ending::Spent,
+        }
+    }
+
+    // 3 instructions and 2 doors: 0 open, 1 inner.
+    fn file(&self) -> File {
+        let layout = Layout::from([self.base, 256, self.guard]);
+        let mut file = File::new(layout, 3, 2);
+        file.put_instruction(0, self.x);
+        file.put_door(0, 0, Kind::Open);
+        file.put_door(1, 1, Kind::Inner);
+        file
+    }
+
+    pub fn ask(&self, score: &mut Score) {
+        let file = self.file();
+        let before = self.before.memory();
+        let after = self.after.memory();
+        let start = Start {
+            registers: self.before.all_registers(),
+            place: 0,
+            offset: 100,
+            budget: 1,
+        };
+        let ran = Ran {
+            registers: self.after.all_registers(),
+            place: self.place,
+            steps: 1,
+            outcome: Ok(self.ending),
+        };
+        score.ask(|side| {
+            let mut memory = before;
+            side.step(file.as_slice(), &start, &mut memory) == ran && memory == after
+        });
+    }
 }
 
-pub(crate) fn access(op: u32, w: u32) -> Ins {
+// An access through r1, of r2.
+pub(crate) fn access(op: Op, w: u32) -> Ins {
     Ins {
         op,
         a: 2,
@@ -88,184 +117,179 @@ pub(crate) fn access(op: u32, w: u32) -> Ins {
     }
 }
 
-// Accesses that are done. Each row: op, w, the address, r2 after it, and a word of memory after it with its place.
-const DONE: [[u32; 6]; 17] = [
-    [LOAD, 1, DL, 8, FIRST, ONE_TO_FOUR],
-    [LOAD, 2, DL - 1, 2055, FIRST, ONE_TO_FOUR],
-    [LOAD, 4, DL - 3, FIVE_TO_EIGHT, FIRST, ONE_TO_FOUR],
-    [LOAD, 1, DB, 1, FIRST, ONE_TO_FOUR],
-    [LOAD, 2, DB, 513, FIRST, ONE_TO_FOUR],
-    [LOAD, 4, DB, ONE_TO_FOUR, FIRST, ONE_TO_FOUR],
-    [STORE, 1, DL, HELD, LAST, 2701592069],
-    [STORE, 2, DL - 1, HELD, LAST, 2728461829],
-    [STORE, 4, DL - 3, HELD, LAST, HELD],
-    [STORE, 1, DB, HELD, FIRST, 67306145],
-    [STORE, 2, DB, HELD, FIRST, 67347105],
-    [STORE, 4, DB, HELD, FIRST, HELD],
-    [STORE, 4, DB, 16777216, FIRST, 16777216],
-    [LOAD, 129, DL, 8, FIRST, ONE_TO_FOUR],
-    [LOAD, 130, DL - 1, 2055, FIRST, ONE_TO_FOUR],
-    [LOAD, 129, DB, 1, FIRST, ONE_TO_FOUR],
-    [LOAD, 130, DB, 513, FIRST, ONE_TO_FOUR],
+// An opcode and w, the address, and r2 and the first and the last word after the access.
+pub type DoneRow = (Op, u32, u32, u32, [u32; 2]);
+
+pub const DONE: [DoneRow; 17] = [
+    (Load, 1, DL, 8, KEPT),
+    (Load, 2, DL - 1, 2055, KEPT),
+    (Load, 4, DL - 3, FIVE_TO_EIGHT, KEPT),
+    (Load, 1, DB, 1, KEPT),
+    (Load, 2, DB, 513, KEPT),
+    (Load, 4, DB, ONE_TO_FOUR, KEPT),
+    (Store, 1, DL, HELD, [ONE_TO_FOUR, 2701592069]),
+    (Store, 2, DL - 1, HELD, [ONE_TO_FOUR, 2728461829]),
+    (Store, 4, DL - 3, HELD, [ONE_TO_FOUR, HELD]),
+    (Store, 1, DB, HELD, [67306145, FIVE_TO_EIGHT]),
+    (Store, 2, DB, HELD, [67347105, FIVE_TO_EIGHT]),
+    (Store, 4, DB, HELD, [HELD, FIVE_TO_EIGHT]),
+    (Store, 4, DB, 16777216, [16777216, FIVE_TO_EIGHT]),
+    (Load, 129, DL, 8, KEPT),
+    (Load, 130, DL - 1, 2055, KEPT),
+    (Load, 129, DB, 1, KEPT),
+    (Load, 130, DB, 513, KEPT),
 ];
 
-pub(crate) fn done(score: &mut [u32; 4], i: usize) {
-    let row = DONE[i % 17];
-    let after = After {
-        code: SPENT,
-        place: 1,
-        r0: 0,
-        r1: row[2],
-        r2: row[3],
-        at: row[4],
-        word: row[5],
+pub(crate) fn done_row(score: &mut Score, row: &DoneRow) {
+    let &(op, w, address, r2, words) = row;
+    let held = if op == Store { r2 } else { HELD };
+    let after = State {
+        registers: [0, address, r2],
+        words,
     };
-    let held = if row[0] == STORE { row[3] } else { HELD };
-    let x = access(row[0], row[1]);
-    step(score, x, row[2], held, ONE_TO_FOUR, after);
+    Step::of(access(op, w), State::of([0, address, held]), after).ask(score);
 }
 
-// Accesses that end the run, into the guard and beyond it: the first byte at the lower edges, the last at the upper
-// ones. Each row: w, the address, and how it ends.
-const ENDS: [[u32; 3]; 27] = [
-    [1, DL + 1, TRAPPED],
-    [2, DL, TRAPPED],
-    [4, DL - 2, TRAPPED],
-    [1, DL + 256, TRAPPED],
-    [2, DL + 255, TRAPPED],
-    [4, DL + 253, TRAPPED],
-    [4, DB - 1, TRAPPED],
-    [1, DB - 256, TRAPPED],
-    [1, DL + 257, STRAYED],
-    [2, DL + 256, STRAYED],
-    [4, DL + 254, STRAYED],
-    [1, DB - 257, STRAYED],
-    [4, DB - 257, STRAYED],
-    [4, 4294967294, STRAYED],
-    [129, DL + 1, TRAPPED],
-    [130, DL, TRAPPED],
-    [129, DL + 256, TRAPPED],
-    [130, DL + 255, TRAPPED],
-    [129, DB - 1, TRAPPED],
-    [130, DB - 1, TRAPPED],
-    [129, DB - 256, TRAPPED],
-    [130, DB - 256, TRAPPED],
-    [129, DL + 257, STRAYED],
-    [130, DL + 256, STRAYED],
-    [129, DB - 257, STRAYED],
-    [130, DB - 257, STRAYED],
-    [130, 4294967295, STRAYED],
+// w, the address, and how the access ends the run.
+pub type EndRow = (u32, u32, Ending);
+
+// Accesses into the guard and beyond it: the first byte at the lower edges, the last at the upper ones.
+pub const ENDS: [EndRow; 27] = [
+    (1, DL + 1, Trapped),
+    (2, DL, Trapped),
+    (4, DL - 2, Trapped),
+    (1, DL + 256, Trapped),
+    (2, DL + 255, Trapped),
+    (4, DL + 253, Trapped),
+    (4, DB - 1, Trapped),
+    (1, DB - 256, Trapped),
+    (1, DL + 257, Strayed),
+    (2, DL + 256, Strayed),
+    (4, DL + 254, Strayed),
+    (1, DB - 257, Strayed),
+    (4, DB - 257, Strayed),
+    (4, 4294967294, Strayed),
+    (129, DL + 1, Trapped),
+    (130, DL, Trapped),
+    (129, DL + 256, Trapped),
+    (130, DL + 255, Trapped),
+    (129, DB - 1, Trapped),
+    (130, DB - 1, Trapped),
+    (129, DB - 256, Trapped),
+    (130, DB - 256, Trapped),
+    (129, DL + 257, Strayed),
+    (130, DL + 256, Strayed),
+    (129, DB - 257, Strayed),
+    (130, DB - 257, Strayed),
+    (130, 4294967295, Strayed),
 ];
 
 // Each as a load, and as a store where it takes the width.
-pub(crate) fn ends(score: &mut [u32; 4], i: usize) {
-    let row = ENDS[i % 27];
-    let after = After {
-        code: row[2],
-        place: 0,
-        r0: 0,
-        r1: row[1],
-        r2: HELD,
-        at: FIRST,
-        word: ONE_TO_FOUR,
-    };
-    let w = row[0];
-    step(score, access(LOAD, w), row[1], HELD, ONE_TO_FOUR, after);
-    if !carries_sign(w) {
-        step(score, access(STORE, w), row[1], HELD, ONE_TO_FOUR, after);
+pub(crate) fn end_row(score: &mut Score, row: &EndRow) {
+    let &(w, address, ending) = row;
+    let held = State::of([0, address, HELD]);
+    for op in accesses(w) {
+        Step {
+            place: 0,
+            ending,
+            ..Step::of(access(*op, w), held, held)
+        }
+        .ask(score);
     }
 }
 
-// Each row: op, a, b, w, imm; r1 and r2 before the step; how it ends, the place and r1 after it.
-const OTHERS: [[u32; 10]; 26] = [
-    [JUMP, 0, 0, 0, 1, 0, 0, SPENT, 1, 0],
-    [JUMP, 0, 0, 0, 2, 0, 0, STRAYED, 0, 0],
-    [JUMP, 0, 0, 0, 65536, 0, 0, STRAYED, 0, 0],
-    [JUMP, 0, 0, 0, 65537, 0, 0, STRAYED, 0, 0],
-    [BRANCH, 1, 2, 0, 65537, 3, 3, STRAYED, 0, 3],
-    [BRANCH, 1, 2, 0, 65537, 3, 4, SPENT, 1, 3],
-    [JUMPR, 1, 0, 0, 0, 0, 0, SPENT, 0, 0],
-    [JUMPR, 1, 0, 0, 0, 1, 0, STRAYED, 0, 1],
-    [JUMPR, 1, 0, 0, 0, 65536, 0, STRAYED, 0, 65536],
-    [CHECK, 1, 0, 0, 0, 0, 0, SPENT, 1, 0],
-    [CHECK, 1, 0, 0, 0, 1, 0, TURNED, 0, 1],
-    [CHECK, 1, 0, 0, 0, 65536, 0, TURNED, 0, 65536],
-    [BRANCH, 1, 2, 1, 0, 3, 4, SPENT, 0, 3],
-    [BRANCH, 1, 2, 1, 0, 4, 4, SPENT, 1, 4],
-    [
-        BRANCH, 1, 2, 1, 0, 2147483648, 2147483647, SPENT, 1, 2147483648,
-    ],
-    [
-        BRANCH, 1, 2, 2, 0, 2147483648, 2147483647, SPENT, 0, 2147483648,
-    ],
-    [
-        BRANCH, 1, 2, 2, 0, 2147483647, 2147483648, SPENT, 1, 2147483647,
-    ],
-    [BRANCH, 1, 2, 2, 0, 4294967295, 0, SPENT, 0, 4294967295],
-    [BRANCH, 1, 2, 2, 0, 4, 4, SPENT, 1, 4],
-    [GUARD, 1, 0, 0, 0, 0, 0, SPENT, 1, DB],
-    [GUARD, 1, 0, 0, 0, 4294967295, 0, SPENT, 1, DL],
-    [GUARD, 1, 0, 0, 0, DL + 1, 0, SPENT, 1, DB],
-    [SAR, 1, 0, 4, 0, 2147483648, 0, SPENT, 1, 4160749568],
-    [SAR, 1, 0, 31, 0, 4294967295, 0, SPENT, 1, 4294967295],
-    [SAR, 1, 0, 31, 0, 2147483647, 0, SPENT, 1, 0],
-    [SHR, 1, 0, 31, 0, 2147483648, 0, SPENT, 1, 1],
+// The opcode; a, b, w and imm; r1 and r2 before the step; how it ends, the place, and r1 after it.
+pub type OtherRow = (Op, [u32; 4], [u32; 2], Ending, u16, u32);
+
+pub const OTHERS: [OtherRow; 26] = [
+    (Jump, [0, 0, 0, 1], [0, 0], Spent, 1, 0),
+    (Jump, [0, 0, 0, 2], [0, 0], Strayed, 0, 0),
+    (Jump, [0, 0, 0, 65536], [0, 0], Strayed, 0, 0),
+    (Jump, [0, 0, 0, 65537], [0, 0], Strayed, 0, 0),
+    (Branch, [1, 2, 0, 65537], [3, 3], Strayed, 0, 3),
+    (Branch, [1, 2, 0, 65537], [3, 4], Spent, 1, 3),
+    (Jumpr, [1, 0, 0, 0], [0, 0], Spent, 0, 0),
+    (Jumpr, [1, 0, 0, 0], [1, 0], Strayed, 0, 1),
+    (Jumpr, [1, 0, 0, 0], [65536, 0], Strayed, 0, 65536),
+    (Check, [1, 0, 0, 0], [0, 0], Spent, 1, 0),
+    (Check, [1, 0, 0, 0], [1, 0], TurnedAway, 0, 1),
+    (Check, [1, 0, 0, 0], [65536, 0], TurnedAway, 0, 65536),
+    (Branch, [1, 2, 1, 0], [3, 4], Spent, 0, 3),
+    (Branch, [1, 2, 1, 0], [4, 4], Spent, 1, 4),
+    (
+        Branch,
+        [1, 2, 1, 0],
+        [2147483648, 2147483647],
+        Spent,
+        1,
+        2147483648,
+    ),
+    (
+        Branch,
+        [1, 2, 2, 0],
+        [2147483648, 2147483647],
+        Spent,
+        0,
+        2147483648,
+    ),
+    (
+        Branch,
+        [1, 2, 2, 0],
+        [2147483647, 2147483648],
+        Spent,
+        1,
+        2147483647,
+    ),
+    (Branch, [1, 2, 2, 0], [4294967295, 0], Spent, 0, 4294967295),
+    (Branch, [1, 2, 2, 0], [4, 4], Spent, 1, 4),
+    (Guard, [1, 0, 0, 0], [0, 0], Spent, 1, DB),
+    (Guard, [1, 0, 0, 0], [4294967295, 0], Spent, 1, DL),
+    (Guard, [1, 0, 0, 0], [DL + 1, 0], Spent, 1, DB),
+    (Sar, [1, 0, 4, 0], [2147483648, 0], Spent, 1, 4160749568),
+    (Sar, [1, 0, 31, 0], [4294967295, 0], Spent, 1, 4294967295),
+    (Sar, [1, 0, 31, 0], [2147483647, 0], Spent, 1, 0),
+    (Shr, [1, 0, 31, 0], [2147483648, 0], Spent, 1, 1),
 ];
 
-pub(crate) fn others(score: &mut [u32; 4], i: usize) {
-    let row = OTHERS[i % 26];
-    let x = Ins {
-        op: row[0],
-        a: row[1],
-        b: row[2],
-        w: row[3],
-        imm: row[4],
-    };
-    let after = After {
-        code: row[7],
-        place: row[8],
-        r0: 0,
-        r1: row[9],
-        r2: row[6],
-        at: FIRST,
-        word: ONE_TO_FOUR,
-    };
-    step(score, x, row[5], row[6], ONE_TO_FOUR, after);
+pub(crate) fn other_row(score: &mut Score, row: &OtherRow) {
+    let &(op, operands, [r1, r2], ending, place, left) = row;
+    let x = Ins::from((op, operands));
+    Step {
+        place,
+        ending,
+        ..Step::of(x, State::of([0, r1, r2]), State::of([0, left, r2]))
+    }
+    .ask(score);
 }
 
-// Each row: how long the memory is, the offset of the region, and the refusal's number, 0 for none.
-const ROOMS: [[u32; 3]; 6] = [
-    [256, 0, 0],
-    [255, 0, 15],
-    [256, 1, 15],
-    [400, 144, 0],
-    [400, 145, 15],
-    [0, 0, 15],
+// How long the memory is, the offset of the region, and the number of the refusal.
+pub type RoomRow = (usize, usize, Option<u32>);
+
+pub const ROOMS: [RoomRow; 6] = [
+    (256, 0, None),
+    (255, 0, Some(15)),
+    (256, 1, Some(15)),
+    (400, 144, None),
+    (400, 145, Some(15)),
+    (0, 0, Some(15)),
 ];
 
-pub(crate) fn rooms(score: &mut [u32; 4], i: usize) {
-    let row = ROOMS[i % 6];
-    let length = wide(row[0]) % 401;
-    let offset = wide(row[1]);
-    let mut buf = [0u8; 1024];
-    write_module(&mut buf, DB, 256, unary(CHECK, 1));
-    let mut left = fresh(ONE_TO_FOUR);
-    let mut right = fresh(ONE_TO_FOUR);
-    let y = ours::run(
-        front(&buf, LENGTH),
-        [0; 8],
-        0,
-        &mut left[0..length],
+pub(crate) fn room_row(score: &mut Score, row: &RoomRow) {
+    let &(length, offset, wrong) = row;
+    let state = State::of([0; 3]);
+    let file = Step::of(unary(Check, 1), state, state).file();
+    let start = Start {
+        registers: [0; 8],
+        place: 0,
         offset,
-        1,
-    );
-    let z = reference::run(
-        front(&buf, LENGTH),
-        [0; 8],
-        0,
-        &mut right[0..length],
-        offset,
-        1,
-    );
-    note(score, roomed(y, row[2]), roomed(z, row[2]));
+        budget: 1,
+    };
+    score.ask(|side| {
+        let mut memory = state.memory();
+        let ran = side.run(file.as_slice(), &start, &mut memory[..length.min(400)]);
+        match wrong {
+            Some(number) => ran.outcome == Err(Fault { number, place: 0 }) && ran.steps == 0,
+            None => ran.outcome.is_ok() && ran.steps == 1,
+        }
+    });
 }

@@ -1,161 +1,164 @@
 // How often each answer was given, and the lines that say so.
-use super::build::wide;
-use reference::{Judged, Ran};
-use std::io;
+use super::answer::{Ending, Ran, Verdict};
+use std::fmt::Display;
+use std::{fmt, io};
 
-// The slots of a tally of 256: verdicts from 0 up (0 accepted, else the refusal's number), refused runs from 64 and
-// ended ones from 128 up, then how many were compared and agree. A refusal's number is below 64.
-const VERDICTS: usize = 0;
-
-const REFUSED_RUNS: usize = 64;
-
-const ENDED_RUNS: usize = 128;
-
-const JUDGED: usize = 192;
-
-const JUDGED_ALIKE: usize = 193;
-
-const RAN: usize = 194;
-
-const RAN_ALIKE: usize = 195;
-
-// Of files whose claims are worked out, which have a tally of their own: those that were accepted, that verify accepts
-// after it, and that are the same when they are worked out again; those that were refused with their bytes as they came;
-// and loops by what they claim of r0.
-pub const VERIFIED: usize = 196;
-
-pub const SAME_AGAIN: usize = 197;
-
-pub const KEPT: usize = 198;
-
-pub const WIDENED: usize = 199;
-
-pub const NARROW: usize = 200;
-
-pub(crate) fn count(tally: &mut [u32; 256], slot: usize) {
-    let i = slot % 256;
-    tally[i] = std::num::wrapping_add_u32(tally[i], 1);
+fn up(count: &mut u32) {
+    *count = count.wrapping_add(1);
 }
 
-pub(crate) fn count_verdict(tally: &mut [u32; 256], x: Judged, alike: bool) {
-    let number = if x.accepted { 0 } else { wide(x.first) % 64 };
-    count(tally, VERDICTS + number);
-    count(tally, JUDGED);
-    if alike {
-        count(tally, JUDGED_ALIKE);
+// How many pairs of answers were compared, and how many of them are alike.
+#[derive(Clone, Copy, Default)]
+struct Agreement {
+    alike: u32,
+    all: u32,
+}
+
+impl Agreement {
+    fn count(&mut self, alike: bool) {
+        up(&mut self.all);
+        if alike {
+            up(&mut self.alike);
+        }
     }
 }
 
-pub(crate) fn count_run(tally: &mut [u32; 256], x: Ran, alike: bool) {
-    let code = wide(x.code) % 64;
-    if x.refused {
-        count(tally, REFUSED_RUNS + code);
-    } else {
-        count(tally, ENDED_RUNS + code);
-    }
-    count(tally, RAN);
-    if alike {
-        count(tally, RAN_ALIKE);
+impl Display for Agreement {
+    fn fmt<W: fmt::Write>(&self, f: &mut fmt::Formatter<W>) -> fmt::Result {
+        write!(f, "{} of {}", self.alike, self.all)
     }
 }
 
-pub(crate) fn write(rt: &impl Print, words: &str) -> io::Result<()> {
-    rt.print(words)
+// By a refusal's number, which is below 64.
+#[derive(Clone, Copy, Default)]
+struct Refusals([u32; 64]);
+
+impl Refusals {
+    fn count(&mut self, number: u32) {
+        up(&mut self.0[number as usize % 64]);
+    }
+
+    // A line for each number that was given.
+    fn report(&self, rt: &impl Print, words: &str) -> io::Result<()> {
+        for (number, given) in self.0.iter().enumerate() {
+            if 0 < *given {
+                println!(rt; "{words} {number}: {given}")?;
+            }
+        }
+        Ok(())
+    }
 }
 
-pub(crate) fn write_number(rt: &impl Print, number: u32) -> io::Result<()> {
-    rt.print(number)
+// The answers to files that are judged.
+#[derive(Clone, Copy, Default)]
+pub struct Verdicts {
+    agreement: Agreement,
+    // A count, and no flag.
+    accepted: u32,
+    refused: Refusals,
 }
 
-fn entry(tally: &[u32; 256], slot: usize) -> u32 {
-    tally[slot % 256]
+impl Verdicts {
+    pub fn count(&mut self, verdict: Verdict, alike: bool) {
+        self.agreement.count(alike);
+        match verdict {
+            Ok(_) => up(&mut self.accepted),
+            Err(fault) => self.refused.count(fault.number),
+        }
+    }
+}
+
+// The answers to runs; those that ended by how they did.
+#[derive(Clone, Copy, Default)]
+pub struct Runs {
+    agreement: Agreement,
+    refused: Refusals,
+    ended: [u32; 5],
+}
+
+impl Runs {
+    pub fn count(&mut self, ran: &Ran, alike: bool) {
+        self.agreement.count(alike);
+        match ran.outcome {
+            Ok(ending) => up(&mut self.ended[ending as usize]),
+            Err(fault) => self.refused.count(fault.number),
+        }
+    }
+}
+
+// The files and runs of the generated modules.
+#[derive(Clone, Copy, Default)]
+pub struct Tally {
+    pub verdicts: Verdicts,
+    pub runs: Runs,
+}
+
+// The files whose claims are worked out: those that were accepted, that verify accepts after it, and that are the same
+// when they are worked out again; those that were refused with their bytes as they came; and loops by what they claim of
+// r0.
+#[derive(Clone, Copy, Default)]
+pub struct Worked {
+    pub verdicts: Verdicts,
+    verified: u32,
+    same_again: u32,
+    kept: u32,
+    widened: u32,
+    narrow: u32,
 }
 
 fn line(rt: &impl Print, words: &str, number: u32) -> io::Result<()> {
     println!(rt; "{words}: {number}")
 }
 
-fn agreement(rt: &impl Print, words: &str, alike: u32, all: u32) -> io::Result<()> {
-    println!(rt; "{words}{alike} of {all}")
-}
-
-// A refusal that was given.
-fn refusal(
-    rt: &impl Print,
-    tally: &[u32; 256],
-    words: &str,
-    slots: usize,
-    number: u32,
-) -> io::Result<()> {
-    let given = entry(tally, slots % 256 + wide(number));
-    if 0 < given {
-        write(rt, words)?;
-        write_number(rt, number)?;
-        line(rt, "", given)?;
+impl Tally {
+    pub fn report(&self, rt: &impl Print) -> io::Result<()> {
+        println!(rt; "verdicts agree {}", self.verdicts.agreement)?;
+        println!(rt; "runs agree {}", self.runs.agreement)?;
+        line(rt, "accepted", self.verdicts.accepted)?;
+        self.verdicts.refused.report(rt, "refused")?;
+        self.runs.refused.report(rt, "run refused")?;
+        for ending in Ending::ALL {
+            println!(rt; "{ending}: {}", self.runs.ended[ending as usize])?;
+        }
+        Ok(())
     }
-    Ok(())
 }
 
-fn refusals(rt: &impl Print, tally: &[u32; 256], words: &str, slots: usize) -> io::Result<()> {
-    let mut number = 1u32;
-    while number < 64 {
-        refusal(rt, tally, words, slots, number)?;
-        number += 1;
+impl Worked {
+    // A file that was accepted: whether verify accepts it, and whether it stays the same.
+    pub fn accepted(&mut self, verified: bool, same_again: bool) {
+        if verified {
+            up(&mut self.verified);
+        }
+        if same_again {
+            up(&mut self.same_again);
+        }
     }
-    Ok(())
-}
 
-fn endings(rt: &impl Print, tally: &[u32; 256]) -> io::Result<()> {
-    line(rt, "halted", entry(tally, ENDED_RUNS))?;
-    line(rt, "trapped", entry(tally, ENDED_RUNS + 1))?;
-    line(rt, "turned away", entry(tally, ENDED_RUNS + 2))?;
-    line(rt, "strayed", entry(tally, ENDED_RUNS + 3))?;
-    line(rt, "spent", entry(tally, ENDED_RUNS + 4))
-}
+    // A file that was refused, and whether its bytes are as they came.
+    pub fn refused(&mut self, kept: bool) {
+        if kept {
+            up(&mut self.kept);
+        }
+    }
 
-pub(crate) fn report(rt: &impl Print, tally: &[u32; 256]) -> io::Result<()> {
-    agreement(
-        rt,
-        "verdicts agree ",
-        entry(tally, JUDGED_ALIKE),
-        entry(tally, JUDGED),
-    )?;
-    agreement(
-        rt,
-        "runs agree ",
-        entry(tally, RAN_ALIKE),
-        entry(tally, RAN),
-    )?;
-    line(rt, "accepted", entry(tally, VERDICTS))?;
-    refusals(rt, tally, "refused ", VERDICTS)?;
-    refusals(rt, tally, "run refused ", REFUSED_RUNS)?;
-    endings(rt, tally)
-}
+    // A loop, and whether its r0 is claimed to be anything.
+    pub fn claimed(&mut self, anything: bool) {
+        up(if anything {
+            &mut self.widened
+        } else {
+            &mut self.narrow
+        });
+    }
 
-pub(crate) fn report_worked(rt: &impl Print, worked: &[u32; 256]) -> io::Result<()> {
-    agreement(
-        rt,
-        "claims worked out alike ",
-        entry(worked, JUDGED_ALIKE),
-        entry(worked, JUDGED),
-    )?;
-    line(rt, "worked out and accepted", entry(worked, VERDICTS))?;
-    line(rt, "then verified", entry(worked, VERIFIED))?;
-    line(
-        rt,
-        "the same when worked out again",
-        entry(worked, SAME_AGAIN),
-    )?;
-    refusals(rt, worked, "worked out and refused ", VERDICTS)?;
-    line(
-        rt,
-        "refused with the bytes as they came",
-        entry(worked, KEPT),
-    )?;
-    line(
-        rt,
-        "loops whose r0 is widened to anything",
-        entry(worked, WIDENED),
-    )?;
-    line(rt, "loops whose r0 keeps a range", entry(worked, NARROW))
+    pub fn report(&self, rt: &impl Print) -> io::Result<()> {
+        println!(rt; "claims worked out alike {}", self.verdicts.agreement)?;
+        line(rt, "worked out and accepted", self.verdicts.accepted)?;
+        line(rt, "then verified", self.verified)?;
+        line(rt, "the same when worked out again", self.same_again)?;
+        self.verdicts.refused.report(rt, "worked out and refused")?;
+        line(rt, "refused with the bytes as they came", self.kept)?;
+        line(rt, "loops whose r0 is widened to anything", self.widened)?;
+        line(rt, "loops whose r0 keeps a range", self.narrow)
+    }
 }

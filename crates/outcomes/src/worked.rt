@@ -1,196 +1,296 @@
 // Known outcomes of working out claims, as ticket 3 of document 02 has it: the answer, and every byte of the file after
 // it. The modules come with claims that no file may have, from the highest number down to 0.
-use super::build::{
-    ADDI, ANDI, BRANCH, GUARD, JUMP, LOAD, MOST, SET, claim, door, door_at, front, headers, layout,
-    put, wide,
-};
-use super::known::write_instruction;
-use super::score::{note, refused};
-use super::work::{ours_as, theirs_as};
-use reference::Judged;
-use std::num::wrapping_add_u32;
+use super::answer::{Fault, Verdict};
+use super::build::Op::{Addi, Andi, Branch, Guard, Halt, Jump, Load, Set};
+use super::build::{Code, File, Kind, Layout, MOST, Span};
+use super::score::Score;
+use super::work::works_out;
 
 const BASE: u32 = 536870912;
 
 const SIZE: u32 = 4096;
 
-// The instructions of the modules, one module after the other. From 0: document 01's loop. From 4, 10 and 16: loops up
-// to 8, up to 9 and down from 8. From 22: one that grows its door twice in a sweep. From 30: the taken edge of the
-// branch at 6 reaches the door at 7, and its next edge widens it. From 39: the door at 1 is unreached, and the one at 3
-// can be reached from there alone. From 43: no way in at 3, whence r1 would be 0. From 48: a branch to no door.
-const CODE: [[u32; 5]; 51] = [
-    [GUARD, 1, 0, 0, 0],
-    [LOAD, 0, 1, 4, 0],
-    [ADDI, 1, 0, 0, 4],
-    [JUMP, 0, 0, 0, 1],
-    [SET, 0, 0, 0, 0],
-    [SET, 1, 0, 0, 8],
-    [BRANCH, 0, 1, 1, 4],
-    [0, 0, 0, 0, 0],
-    [ADDI, 0, 0, 0, 1],
-    [JUMP, 0, 0, 0, 2],
-    [SET, 0, 0, 0, 0],
-    [SET, 1, 0, 0, 9],
-    [BRANCH, 0, 1, 1, 4],
-    [0, 0, 0, 0, 0],
-    [ADDI, 0, 0, 0, 1],
-    [JUMP, 0, 0, 0, 2],
-    [SET, 0, 0, 0, 8],
-    [SET, 1, 0, 0, 0],
-    [BRANCH, 1, 0, 1, 4],
-    [0, 0, 0, 0, 0],
-    [ADDI, 0, 0, 0, MOST],
-    [JUMP, 0, 0, 0, 2],
-    [SET, 0, 0, 0, 0],
-    [SET, 1, 0, 0, 15],
-    [BRANCH, 0, 1, 1, 4],
-    [0, 0, 0, 0, 0],
-    [ADDI, 0, 0, 0, 1],
-    [BRANCH, 2, 3, 0, 2],
-    [ADDI, 0, 0, 0, 1],
-    [JUMP, 0, 0, 0, 2],
-    [SET, 0, 0, 0, 0],
-    [ANDI, 1, 0, 0, 1],
-    [SET, 2, 0, 0, 9],
-    [JUMP, 0, 0, 0, 6],
-    [ADDI, 1, 0, 0, 1],
-    [JUMP, 0, 0, 0, 7],
-    [BRANCH, 0, 1, 0, 7],
-    [BRANCH, 1, 2, 1, 4],
-    [0, 0, 0, 0, 0],
-    [0, 0, 0, 0, 0],
-    [SET, 0, 0, 0, 5],
-    [JUMP, 0, 0, 0, 3],
-    [0, 0, 0, 0, 0],
-    [SET, 1, 0, 0, BASE],
-    [LOAD, 0, 1, 4, 0],
-    [0, 0, 0, 0, 0],
-    [SET, 1, 0, 0, 0],
-    [JUMP, 0, 0, 0, 1],
-    [SET, 0, 0, 0, 5],
-    [BRANCH, 1, 2, 1, 9],
-    [0, 0, 0, 0, 0],
+// Each of the tables below is a module's code, and no column beside another.
+
+// Document 01's loop.
+const LOOP: [Code; 4] = [
+    (Guard, [1, 0, 0, 0]),
+    (Load, [0, 1, 4, 0]),
+    (Addi, [1, 0, 0, 4]),
+    (Jump, [0, 0, 0, 1]),
 ];
 
-// Each row: where its instructions begin in CODE, and how many they are; how many doors, and the indexes of doors 1 to
-// 3; the guard; door 2's byte that is to be 0; and the answer, 1 accepted or 0 refused, with its two numbers.
-const MODULES: [[u32; 11]; 12] = [
-    [0, 4, 2, 1, 0, 0, 4, 0, 1, 4, 2],
-    [0, 4, 2, 1, 0, 0, 3, 0, 0, 10, 1],
-    [4, 6, 3, 2, 4, 0, 4, 0, 1, 6, 3],
-    [10, 6, 3, 2, 4, 0, 4, 0, 1, 6, 3],
-    [16, 6, 3, 2, 4, 0, 4, 0, 1, 6, 3],
-    [22, 8, 3, 2, 4, 0, 4, 0, 1, 8, 3],
-    [30, 9, 4, 4, 6, 7, 4, 0, 1, 9, 4],
-    [39, 4, 3, 1, 3, 0, 4, 0, 1, 4, 3],
-    [43, 5, 2, 1, 0, 0, 4, 0, 0, 12, 3],
-    [48, 3, 2, 2, 0, 0, 4, 0, 0, 8, 1],
-    [4, 5, 3, 2, 4, 0, 4, 0, 0, 13, 4],
-    [39, 4, 3, 1, 3, 0, 4, 1, 0, 7, 2],
+// Loops up to 8, up to 9 and down from 8.
+const UP_TO_8: [Code; 6] = [
+    (Set, [0, 0, 0, 0]),
+    (Set, [1, 0, 0, 8]),
+    (Branch, [0, 1, 1, 4]),
+    (Halt, [0, 0, 0, 0]),
+    (Addi, [0, 0, 0, 1]),
+    (Jump, [0, 0, 0, 2]),
 ];
 
-// Each row: the row of MODULES, the door, the register, and the lowest and highest that is to be claimed. What is not
-// listed is to be anything.
-const CLAIMS: [[u32; 5]; 25] = [
-    [0, 1, 1, BASE, BASE + SIZE],
-    [2, 1, 0, 0, 8],
-    [2, 1, 1, 8, 8],
-    [2, 2, 0, 0, 7],
-    [2, 2, 1, 8, 8],
-    [3, 1, 1, 9, 9],
-    [3, 2, 0, 0, 8],
-    [3, 2, 1, 9, 9],
-    [4, 1, 0, 0, 8],
-    [4, 1, 1, 0, 0],
-    [4, 2, 0, 1, 8],
-    [4, 2, 1, 0, 0],
-    [5, 1, 0, 0, 16],
-    [5, 1, 1, 15, 15],
-    [5, 2, 0, 0, 14],
-    [5, 2, 1, 15, 15],
-    [6, 1, 0, 0, 0],
-    [6, 1, 1, 0, 8],
-    [6, 1, 2, 9, 9],
-    [6, 2, 0, 0, 0],
-    [6, 2, 1, 0, 1],
-    [6, 2, 2, 9, 9],
-    [6, 3, 0, 0, 0],
-    [6, 3, 2, 9, 9],
-    [7, 2, 0, 5, 5],
+const UP_TO_9: [Code; 6] = [
+    (Set, [0, 0, 0, 0]),
+    (Set, [1, 0, 0, 9]),
+    (Branch, [0, 1, 1, 4]),
+    (Halt, [0, 0, 0, 0]),
+    (Addi, [0, 0, 0, 1]),
+    (Jump, [0, 0, 0, 2]),
 ];
 
-fn write_code(buf: &mut [u8], first: u32, n: u32) {
-    let mut i = 0u32;
-    while i < n {
-        let at = wide(wrapping_add_u32(first, i)) % 51;
-        write_instruction(buf, i, CODE[at]);
-        i += 1;
+const DOWN_FROM_8: [Code; 6] = [
+    (Set, [0, 0, 0, 8]),
+    (Set, [1, 0, 0, 0]),
+    (Branch, [1, 0, 1, 4]),
+    (Halt, [0, 0, 0, 0]),
+    (Addi, [0, 0, 0, MOST]),
+    (Jump, [0, 0, 0, 2]),
+];
+
+// One that grows its door twice in a sweep.
+const GROWS_TWICE: [Code; 8] = [
+    (Set, [0, 0, 0, 0]),
+    (Set, [1, 0, 0, 15]),
+    (Branch, [0, 1, 1, 4]),
+    (Halt, [0, 0, 0, 0]),
+    (Addi, [0, 0, 0, 1]),
+    (Branch, [2, 3, 0, 2]),
+    (Addi, [0, 0, 0, 1]),
+    (Jump, [0, 0, 0, 2]),
+];
+
+// The taken edge of the branch at 6 reaches the door at 7, and its next edge widens it.
+const TAKEN_EDGE: [Code; 9] = [
+    (Set, [0, 0, 0, 0]),
+    (Andi, [1, 0, 0, 1]),
+    (Set, [2, 0, 0, 9]),
+    (Jump, [0, 0, 0, 6]),
+    (Addi, [1, 0, 0, 1]),
+    (Jump, [0, 0, 0, 7]),
+    (Branch, [0, 1, 0, 7]),
+    (Branch, [1, 2, 1, 4]),
+    (Halt, [0, 0, 0, 0]),
+];
+
+// The door at 1 is unreached, and the one at 3 can be reached from there alone.
+const UNREACHED: [Code; 4] = [
+    (Halt, [0, 0, 0, 0]),
+    (Set, [0, 0, 0, 5]),
+    (Jump, [0, 0, 0, 3]),
+    (Halt, [0, 0, 0, 0]),
+];
+
+// No way in at 3, whence r1 would be 0.
+const NO_WAY_IN: [Code; 5] = [
+    (Set, [1, 0, 0, BASE]),
+    (Load, [0, 1, 4, 0]),
+    (Halt, [0, 0, 0, 0]),
+    (Set, [1, 0, 0, 0]),
+    (Jump, [0, 0, 0, 1]),
+];
+
+// A branch to no door.
+const NO_DOOR: [Code; 3] = [
+    (Set, [0, 0, 0, 5]),
+    (Branch, [1, 2, 1, 9]),
+    (Halt, [0, 0, 0, 0]),
+];
+
+// The loop up to 8 without its last instruction.
+const CUT_SHORT: [Code; 5] = [
+    (Set, [0, 0, 0, 0]),
+    (Set, [1, 0, 0, 8]),
+    (Branch, [0, 1, 1, 4]),
+    (Halt, [0, 0, 0, 0]),
+    (Addi, [0, 0, 0, 1]),
+];
+
+// The door, the register, and what is claimed of it.
+type Claim = (u32, u32, Span);
+
+// A module: its instructions; the indexes of the inner doors; the guard; and door 2's byte that is to be 0. And what is to
+// come of it: what is claimed, each time the door, the register and the range, or the refusal's number and place. What is
+// not listed is to be anything.
+pub struct Module {
+    code: &'static [Code],
+    doors: &'static [u32],
+    guard: u32,
+    spare: u32,
+    outcome: Result<&'static [Claim], (u32, u32)>,
+}
+
+pub const MODULES: [Module; 12] = [
+    Module {
+        code: &LOOP,
+        doors: &[1],
+        guard: 4,
+        spare: 0,
+        outcome: Ok(&[(1, 1, (BASE, BASE + SIZE))]),
+    },
+    Module {
+        code: &LOOP,
+        doors: &[1],
+        guard: 3,
+        spare: 0,
+        outcome: Err((10, 1)),
+    },
+    Module {
+        code: &UP_TO_8,
+        doors: &[2, 4],
+        guard: 4,
+        spare: 0,
+        outcome: Ok(&[
+            (1, 0, (0, 8)),
+            (1, 1, (8, 8)),
+            (2, 0, (0, 7)),
+            (2, 1, (8, 8)),
+        ]),
+    },
+    Module {
+        code: &UP_TO_9,
+        doors: &[2, 4],
+        guard: 4,
+        spare: 0,
+        outcome: Ok(&[(1, 1, (9, 9)), (2, 0, (0, 8)), (2, 1, (9, 9))]),
+    },
+    Module {
+        code: &DOWN_FROM_8,
+        doors: &[2, 4],
+        guard: 4,
+        spare: 0,
+        outcome: Ok(&[
+            (1, 0, (0, 8)),
+            (1, 1, (0, 0)),
+            (2, 0, (1, 8)),
+            (2, 1, (0, 0)),
+        ]),
+    },
+    Module {
+        code: &GROWS_TWICE,
+        doors: &[2, 4],
+        guard: 4,
+        spare: 0,
+        outcome: Ok(&[
+            (1, 0, (0, 16)),
+            (1, 1, (15, 15)),
+            (2, 0, (0, 14)),
+            (2, 1, (15, 15)),
+        ]),
+    },
+    Module {
+        code: &TAKEN_EDGE,
+        doors: &[4, 6, 7],
+        guard: 4,
+        spare: 0,
+        outcome: Ok(&[
+            (1, 0, (0, 0)),
+            (1, 1, (0, 8)),
+            (1, 2, (9, 9)),
+            (2, 0, (0, 0)),
+            (2, 1, (0, 1)),
+            (2, 2, (9, 9)),
+            (3, 0, (0, 0)),
+            (3, 2, (9, 9)),
+        ]),
+    },
+    Module {
+        code: &UNREACHED,
+        doors: &[1, 3],
+        guard: 4,
+        spare: 0,
+        outcome: Ok(&[(2, 0, (5, 5))]),
+    },
+    Module {
+        code: &NO_WAY_IN,
+        doors: &[1],
+        guard: 4,
+        spare: 0,
+        outcome: Err((12, 3)),
+    },
+    Module {
+        code: &NO_DOOR,
+        doors: &[2],
+        guard: 4,
+        spare: 0,
+        outcome: Err((8, 1)),
+    },
+    Module {
+        code: &CUT_SHORT,
+        doors: &[2, 4],
+        guard: 4,
+        spare: 0,
+        outcome: Err((13, 4)),
+    },
+    Module {
+        code: &UNREACHED,
+        doors: &[1, 3],
+        guard: 4,
+        spare: 1,
+        outcome: Err((7, 2)),
+    },
+];
+
+impl Module {
+    // Its doors claim anything.
+    fn file(&self) -> File {
+        let layout = Layout::from([BASE, SIZE, self.guard]);
+        let mut file = File::of(layout, self.code, self.doors.len());
+        file.put_door(0, 0, Kind::Open);
+        for (j, index) in (1..).zip(self.doors) {
+            file.put_door(j, *index, Kind::Inner);
+        }
+        file.put::<1>(file.door_at(2) + 3, self.spare);
+        file
+    }
+
+    // What is to come of it.
+    fn verdict(&self) -> Verdict {
+        match self.outcome {
+            Ok(_) => Ok(self.file().counts),
+            Err(wrong) => Err(Fault::from(wrong)),
+        }
+    }
+
+    // As it comes: every claim of the inner doors is wrong.
+    fn spoiled(&self) -> File {
+        let mut file = self.file();
+        for j in 1..file.counts.doors {
+            for r in 0..8 {
+                file.put_claim(j, r, (MOST, 0));
+            }
+        }
+        file
+    }
+
+    fn claiming(&self, claims: &[Claim]) -> File {
+        let mut file = self.file();
+        for claim in claims {
+            let &(j, r, claimed) = claim;
+            file.put_claim(j, r, claimed);
+        }
+        file
+    }
+
+    // The file afterwards, which is as it came where it is refused.
+    fn worked_out(&self) -> File {
+        match self.outcome {
+            Ok(claims) => self.claiming(claims),
+            Err(_) => self.spoiled(),
+        }
     }
 }
 
-// The doors claim anything. Those past the count lie past the file's end.
-fn write_doors(buf: &mut [u8], row: &[u32; 11]) {
-    let n = row[1];
-    door(buf, n, 0, 0, 1);
-    door(buf, n, 1, row[3], 0);
-    door(buf, n, 2, row[4], 0);
-    door(buf, n, 3, row[5], 0);
-}
+// No file may have the claims that it comes with.
+const WRONG_CLAIM: Verdict = Err(Fault {
+    number: 7,
+    place: 1,
+});
 
-fn write_module(buf: &mut [u8], row: &[u32; 11]) {
-    layout(buf, BASE, SIZE, row[6]);
-    write_code(buf, row[0], row[1]);
-    headers(buf, row[1], row[2]);
-    write_doors(buf, row);
-    put(buf, door_at(row[1], 2) + 3, row[7]);
-}
-
-// Every claim of the inner doors, which are all but the first.
-fn spoil(buf: &mut [u8], n: u32, k: u32) {
-    let all = k % 8 * 8;
-    let mut t = 8u32;
-    while t < all {
-        claim(buf, n, t / 8, t % 8, MOST, 0);
-        t += 1;
-    }
-}
-
-fn write_claim(buf: &mut [u8], n: u32, module: u32, t: usize) {
-    let row = CLAIMS[t % 25];
-    if row[0] == module {
-        claim(buf, n, row[1], row[2], row[3], row[4]);
-    }
-}
-
-fn write_claims(buf: &mut [u8], n: u32, module: u32) {
-    let mut t = 0;
-    while t < 25 {
-        write_claim(buf, n, module, t);
-        t += 1;
-    }
-}
-
-pub(crate) fn claims(score: &mut [u32; 4], i: usize) {
-    let row = MODULES[i % 12];
-    let n = row[1];
-    let length = door_at(n, row[2]);
-    let answer = Judged {
-        accepted: row[8] == 1,
-        first: row[9],
-        second: row[10],
-    };
-    let mut given = [0u8; 1024];
-    write_module(&mut given, &row);
-    spoil(&mut given, n, row[2]);
-    refused(score, front(&given, length), 7, 1);
-    let mut after = given;
-    if answer.accepted {
-        write_doors(&mut after, &row);
-        write_claims(&mut after, n, (i % 12) as u32);
-    }
-    note(
-        score,
-        ours_as(given, length, answer, &after),
-        theirs_as(given, length, answer, &after),
-    );
+pub(crate) fn claims_row(score: &mut Score, module: &Module) {
+    let given = module.spoiled();
+    let after = module.worked_out();
+    let answer = module.verdict();
+    score.judge(given.as_slice(), WRONG_CLAIM);
+    score.ask(|side| works_out(side, &given, answer, &after));
 }

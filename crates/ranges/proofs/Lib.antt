@@ -1,5 +1,2 @@
-pub mod Bounding
 pub mod Cutting
-pub mod Displacements
-pub mod Raised
 pub mod Registers

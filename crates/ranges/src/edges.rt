@@ -3,7 +3,7 @@ ghost use Rattle.std.specs.Prelude.{◌≡◌};
 ghost use Rattle.model.specs.declared.LoadWidth.TheVariants.{Unsigned};
 ghost use Rattle.model.specs.Instructions.{load_range, shape, rule_n, after_next, after_taken};
 
-use crate::knowledge::{put, range_of};
+use crate::knowledge::{ANYTHING, put, range_of, up_to};
 use crate::{bounds, cuts, sums};
 use model::{Instruction, LoadWidth, Range, Ranges, Width};
 
@@ -12,30 +12,24 @@ fn unsigned_range(width: Width) -> Range
     ensures { result ≡ load_range (Unsigned width) }
 {
     match width {
-        Width::One => Range { low: 0, high: 0xFF },
-        Width::Two => Range {
-            low: 0,
-            high: 0xFFFF,
-        },
-        Width::Four => Range {
-            low: 0,
-            high: 0xFFFF_FFFF,
-        },
+        Width::One => up_to(0xFF),
+        Width::Two => up_to(0xFFFF),
+        Width::Four => ANYTHING,
     }
 }
 
-// With the sign carried up, "Their range afterwards is anything.", which is what four bytes can hold.
+// With the sign carried up, "Their range afterwards is anything."
 fn load_range(width: LoadWidth) -> Range
     ensures { result ≡ load_range width }
 {
     match width {
         LoadWidth::Unsigned { width } => unsigned_range(width),
-        LoadWidth::SignedOne => unsigned_range(Width::Four),
-        LoadWidth::SignedTwo => unsigned_range(Width::Four),
+        LoadWidth::SignedOne | LoadWidth::SignedTwo => ANYTHING,
     }
 }
 
 // "Rule N shall cut b for every imm and width: exact b + imm lies from DB to DL − w + 1."
+#[tactic(auto, unfolding(model::specs::Instructions::rule_n))]
 fn rule_n(region: Range, b: u8, width: Width, imm: i32, known: Ranges) -> Ranges
     ensures { result ≡ rule_n region (record { pointer = b; width = width; displacement = imm }) known }
 {
@@ -50,7 +44,6 @@ pub fn after_next(region: Range, instruction: Instruction, known: Ranges) -> Ran
     ensures { result ≡ after_next region (shape instruction) known }
 {
     match instruction {
-        Instruction::Halt => known,
         Instruction::Set { a, imm } => put(
             known,
             a,
@@ -82,10 +75,11 @@ pub fn after_next(region: Range, instruction: Instruction, known: Ranges) -> Ran
             load_range(width),
         ),
         Instruction::Store { b, width, imm, .. } => rule_n(region, b, width, imm, known),
-        Instruction::Jump { .. } => known,
         Instruction::Branch { a, b, test, .. } => cuts::rule_b(test, false, a, b, known),
-        Instruction::Check { .. } => known,
-        Instruction::Jumpr { .. } => known,
+        Instruction::Halt
+        | Instruction::Jump { .. }
+        | Instruction::Check { .. }
+        | Instruction::Jumpr { .. } => known,
     }
 }
 
@@ -95,21 +89,7 @@ pub fn after_taken(instruction: Instruction, known: Ranges) -> Ranges
     ensures { result ≡ after_taken (shape instruction) known }
 {
     match instruction {
-        Instruction::Halt => known,
-        Instruction::Set { .. } => known,
-        Instruction::Copy { .. } => known,
-        Instruction::Add { .. } => known,
-        Instruction::Addi { .. } => known,
-        Instruction::Sub { .. } => known,
-        Instruction::Andi { .. } => known,
-        Instruction::Guard { .. } => known,
-        Instruction::Shr { .. } => known,
-        Instruction::Sar { .. } => known,
-        Instruction::Load { .. } => known,
-        Instruction::Store { .. } => known,
-        Instruction::Jump { .. } => known,
         Instruction::Branch { a, b, test, .. } => cuts::rule_b(test, true, a, b, known),
-        Instruction::Check { .. } => known,
-        Instruction::Jumpr { .. } => known,
+        _ => known,
     }
 }

@@ -1,16 +1,39 @@
 // What is known of the eight registers.
 ghost use Rattle.std.specs.Prelude.{◌≡◌};
-ghost use Rattle.model.specs.Ranges.{range_of, put, unknown, lies_within};
+ghost use Rattle.model.specs.Words.{top};
+ghost use Rattle.model.specs.Ranges.{range, range_of, put, unknown, lies_within};
 
+use crate::covers::is_within;
 use model::{Range, Ranges};
+
+// "'anything', 0 to 2^32 − 1"
+pub(crate) const ANYTHING: Range = Range {
+    low: 0,
+    high: u32::MAX,
+};
+
+pub(crate) fn up_to(high: u32) -> Range
+    ensures { result ≡ range 0 high }
+{
+    Range { low: 0, high }
+}
+
+pub(crate) fn up_from(low: u32) -> Range
+    ensures { result ≡ range low top }
+{
+    Range {
+        low,
+        high: u32::MAX,
+    }
+}
 
 // Nothing is known of any register.
 pub fn unknown() -> Ranges
     ensures { result ≡ unknown }
 {
     Ranges {
-        lows: [0; 8],
-        highs: [0xFFFF_FFFF; 8],
+        lows: [ANYTHING.low; 8],
+        highs: [ANYTHING.high; 8],
     }
 }
 
@@ -18,14 +41,10 @@ pub fn unknown() -> Ranges
 pub fn range_of(known: Ranges, r: u8) -> Range
     ensures { result ≡ range_of known r }
 {
-    let i = r as usize;
-    if i < 8 {
-        Range {
-            low: known.lows[i],
-            high: known.highs[i],
-        }
-    } else {
-        Range { low: 0, high: 0 }
+    let i = usize::from(r);
+    Range {
+        low: known.lows.get(i).copied().unwrap_or(0),
+        high: known.highs.get(i).copied().unwrap_or(0),
     }
 }
 
@@ -34,8 +53,8 @@ pub(crate) fn put(known: Ranges, r: u8, x: Range) -> Ranges
     ensures { result ≡ put known r x }
 {
     let mut next = known;
-    let i = r as usize;
-    if i < 8 {
+    let i = usize::from(r);
+    if i < next.lows.len() {
         next.lows[i] = x.low;
         next.highs[i] = x.high;
     }
@@ -46,19 +65,5 @@ pub(crate) fn put(known: Ranges, r: u8, x: Range) -> Ranges
 pub fn lies_within(known: Ranges, claim: Ranges) -> bool
     ensures { result ≡ lies_within known claim }
 {
-    let lows = known.lows;
-    let highs = known.highs;
-    let least = claim.lows;
-    let most = claim.highs;
-    let mut r = 0;
-    while r < 8 {
-        if lows[r] < least[r] {
-            return false;
-        }
-        if most[r] < highs[r] {
-            return false;
-        }
-        r += 1;
-    }
-    true
+    (0..8).all(|r| is_within(range_of(known, r), range_of(claim, r)))
 }

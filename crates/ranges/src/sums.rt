@@ -6,53 +6,68 @@ ghost use Rattle.model.specs.Words.{modulus};
 ghost use Rattle.model.specs.Ranges.{rule_w};
 ghost use Rattle.model.specs.Instructions.{bytes_of};
 
+use crate::knowledge::ANYTHING;
 use model::{Range, Width};
 
 // 2^32, by which ends are raised.
 pub const WORDS: u64 = 0x1_0000_0000;
 
-// The same for a signed sum.
-const RAISE: i64 = 0x1_0000_0000;
+// An exact end, raised.
+#[derive(Clone, Copy)]
+struct End {
+    raised: u64,
+    ghost bound: { raised < 0x3_0000_0000 },
+}
 
-// Rule W on two raised ends.
-fn rule_w(low: u64, high: u64) -> Range
-    requires { (low < 0x3_0000_0000) × (high < 0x3_0000_0000) }
-    ensures { result ≡ rule_w (sub_ℕ low modulus) (sub_ℕ high modulus) }
+// Rule W on two ends.
+#[tactic(auto, unfolding(model::specs::Ranges::rule_w))]
+fn rule_w(low: End, high: End) -> Range
+    ensures { result ≡ rule_w (sub_ℕ low.raised modulus) (sub_ℕ high.raised modulus) }
 {
-    if low / WORDS != high / WORDS {
-        return Range {
-            low: 0,
-            high: 0xFFFF_FFFF,
-        };
+    if low.raised / WORDS != high.raised / WORDS {
+        return ANYTHING;
     }
     Range {
-        low: (low % WORDS) as u32,
-        high: (high % WORDS) as u32,
+        low: (low.raised % WORDS) as u32,
+        high: (high.raised % WORDS) as u32,
     }
 }
 
-// The sum of two ends, raised.
-fn sum_of_ends(x: u32, y: u32) -> u64
-    ensures { (sub_ℕ result modulus ≡ pos x +ℤ pos y) × (result < 0x3_0000_0000) }
+// The sum of two ends.
+fn sum_of_ends(x: u32, y: u32) -> End
+    ensures { sub_ℕ result.raised modulus ≡ pos x +ℤ pos y }
 {
-    WORDS + (x as u64 + y as u64)
+    End {
+        raised: WORDS + (u64::from(x) + u64::from(y)),
+    }
 }
 
-// The difference of two ends, raised.
-fn difference_of_ends(x: u32, y: u32) -> u64
-    ensures { (sub_ℕ result modulus ≡ sub_ℕ x y) × (result < 0x3_0000_0000) }
+// The difference of two ends.
+fn difference_of_ends(x: u32, y: u32) -> End
+    ensures { sub_ℕ result.raised modulus ≡ sub_ℕ x y }
 {
-    WORDS + x as u64 - y as u64
+    End {
+        raised: WORDS + u64::from(x) - u64::from(y),
+    }
 }
 
-// An end plus a signed displacement, raised.
+// An end plus a signed displacement.
+fn displaced(end: u32, imm: i32) -> End
+    ensures { sub_ℕ result.raised modulus ≡ pos end +ℤ imm }
+{
+    End {
+        raised: (WORDS + u64::from(end)).wrapping_add_signed(i64::from(imm)),
+    }
+}
+
+// The same, as a number, to which the verifier adds.
 pub fn displaced_end(end: u32, imm: i32) -> u64
     ensures { (sub_ℕ result modulus ≡ pos end +ℤ imm) × (result < 0x3_0000_0000) }
 {
-    ((end as i64) + (imm as i64) + RAISE) as u64
+    displaced(end, imm).raised
 }
 
-// How far the last byte of an access lies behind its first.
+// How far the last byte of an access lies behind its first. (By match: to take 1 from the width it would have to be proved that none is 0.)
 pub fn last_byte(width: Width) -> u8
     ensures { result ≡ bytes_of width - 1 }
 {
@@ -67,7 +82,7 @@ pub fn last_byte(width: Width) -> u8
 pub(crate) fn end_less(end: u32, bytes: u8, imm: i32) -> u64
     ensures { sub_ℕ result modulus ≡ sub_ℕ end bytes -ℤ imm }
 {
-    WORDS + WORDS + end as u64 - bytes as u64 - displaced_end(0, imm)
+    (WORDS + u64::from(end) - u64::from(bytes)).wrapping_sub_signed(i64::from(imm))
 }
 
 // add: "rule W on the two sums of ends"
@@ -81,7 +96,7 @@ pub(crate) fn add(x: Range, y: Range) -> Range
 pub(crate) fn addi(x: Range, imm: i32) -> Range
     ensures { result ≡ rule_w (pos x.low +ℤ imm) (pos x.high +ℤ imm) }
 {
-    rule_w(displaced_end(x.low, imm), displaced_end(x.high, imm))
+    rule_w(displaced(x.low, imm), displaced(x.high, imm))
 }
 
 // sub: "rule W on lowest a − highest b, highest a − lowest b"

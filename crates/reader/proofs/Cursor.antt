@@ -4,7 +4,7 @@ use Prim.Native.Nat.{ℕ, ◌+◌, ◌≤◌, ◌<◌}
 use mathlib.Core.Path.{◌≡◌, refl, sym, ap, ◌∙◌}
 use mathlib.Core.Bool.{Bool, true, false, cond}
 use mathlib.Core.List.{List}
-use mathlib.Core.Option.{none, some}
+use Rattle.std.specs.Prelude.{None, Some}
 use native.Mathlib.Decide.{ℕ_discrete}
 use native.Mathlib.Omega.{arith}
 use borrow.Author.Count.{below_more}
@@ -14,7 +14,7 @@ use Rattle.model.specs.declared.Layout.{Layout}
 use Rattle.model.specs.Program.{target_at}
 use Rattle.model.specs.File.{target_index, target_in, program_of}
 use Rattle.reader.specs.Marks.{mark_at}
-use Rattle.reader.specs.Readings.{Loaded}
+use Rattle.reader.specs.Loading.{Loaded}
 use Rattle.reader.proofs.Searches.{rising, target_there, no_target}
 
 pub record Cursor (targets : List ℕ) (k i j : ℕ) : Type 0 where
@@ -38,7 +38,7 @@ module _ {l : Layout} {code targets : List ℕ} {n k : ℕ} (loaded : Loaded l c
         by_test true tested same = (ltb-true _ _ tested, sym same)
         by_test false tested same = absurd (omega arith)
 
-    pub cursor_hit : target_at (program_of l code targets).targets i ≡ some (target_in targets j)
+    pub cursor_hit : target_at (program_of l code targets).targets i ≡ Some (target_in targets j)
     cursor_hit = target_there loaded i j target_is.0 target_is.1
 
     pub cursor_hit_next : Cursor targets k (i + 1) (j + 1)
@@ -63,7 +63,7 @@ module _ {l : Layout} {code targets : List ℕ} {n k : ℕ} (loaded : Loaded l c
         by_place (yes here) = rw here above_here
         by_place (no further) = omega (arith, above_here, rising loaded j t (omega arith) below)
 
-    pub cursor_miss : target_at (program_of l code targets).targets i ≡ none
+    pub cursor_miss : target_at (program_of l code targets).targets i ≡ None
     cursor_miss = no_target loaded i (λ t below same. by_place t below same (ltb t j) refl)
       where
         by_place : (t : ℕ) → t < k → target_index targets t ≡ i → (test : Bool) → ltb t j ≡ test → ⊥

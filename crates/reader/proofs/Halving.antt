@@ -10,7 +10,7 @@ use borrow.Author.Count.{below_more}
 use borrow.Author.Tests.{ltb-true, ltb-false}
 use lib.Dec.{ltb}
 use Rattle.model.specs.File.{target_index}
-use Rattle.reader.specs.declared.lookup.Lookup.TheVariants.{At, Nowhere}
+use Rattle.std.specs.Prelude.{Some, None}
 use Rattle.reader.specs.Lookups.{Rising, Finds, target_found}
 use Rattle.reader.proofs.Searches.{one_there, none_there}
 
@@ -27,7 +27,7 @@ search_starts targets count to = record {
 }
 
 module _ {targets : List ℕ} {count to low high : ℕ} (between : Between targets count to low high) where
-  pub search_ends : high ≤ low → Finds targets count to Nowhere
+  pub search_ends : high ≤ low → Finds targets count to None
   unfolding target_found
   search_ends past = record {
     here = λ j is. absurd (let z : ◌≡◌ {A = ℕ} 0 1 = cc in omega arith);
@@ -41,7 +41,7 @@ module _ {targets : List ℕ} {count to low high : ℕ} (between : Between targe
 
   -- a turn, at a number below high
   module _ (at : ℕ) (inside : at < high) where
-    pub search_hits : target_index targets at ≡ to → Finds targets count to (At at)
+    pub search_hits : target_index targets at ≡ to → Finds targets count to (Some at)
     unfolding target_found
     search_hits same = record {
       here = λ j is. let this : at ≡ j = cc in (omega (arith, between.within), ap (target_index targets) (sym this) ∙ same);

@@ -1,27 +1,15 @@
--- Lengths: each way that the test for a number of units can go, for every unit, and the tag that lists none; and a field's value has
--- no more bytes than two bytes can say. Assumes nothing.
-use Prim.Native.Nat.{ℕ, ◌+◌, ◌/◌, ◌%◌, ◌^◌, ◌≤◌, ◌<◌}
+-- Lengths: a tag that no field has lists none; and a field's value has no more bytes than two bytes can say. Assumes nothing.
+use Prim.Native.Nat.{ℕ, ◌+◌, ◌^◌, ◌<◌}
 use mathlib.Core.Bool.{false}
 use mathlib.Core.List.{List}
-use mathlib.Core.Option.{Option, none, some}
+use Rattle.std.specs.Prelude.{Option, None, Some}
 use mathlib.Core.Path.{◌≡◌}
 use native.Mathlib.Omega.{arith}
-use lib.Dec.{leb}
 use lib.ListN.{length, get_or, take, drop, length-take}
-use borrow.Author.Tests.{le-leb, lt-leb, eq-eqb, ne_eqb}
+use borrow.Author.Tests.{ne_eqb}
 use Rattle.model.specs.Obligations.{Fault, first_fault}
-use Rattle.model.specs.File.{field_length, value_at, is_multiple, is_listed, field, unless_fault, field_value}
+use Rattle.model.specs.File.{field_length, value_at, is_listed, field, unless_fault, field_value}
 use Rattle.model.proofs.Registers.{read_below}
-
-module _ (unit most n : ℕ) where
-  pub uneven : (n % unit ≡ 0 → ⊥) → false ≡ is_multiple unit most n
-  uneven odd = rw (ne_eqb (n % unit) 0 odd)
-
-  pub too_few : n % unit ≡ 0 → n / unit < 1 → false ≡ is_multiple unit most n
-  too_few even few = rw (eq-eqb (n % unit) 0 even, lt-leb 1 (n / unit) few)
-
-  pub up_to_most : n % unit ≡ 0 → 1 ≤ n / unit → leb (n / unit) most ≡ is_multiple unit most n
-  up_to_most even one = rw (eq-eqb (n % unit) 0 even, le-leb 1 (n / unit) one)
 
 pub none_listed : (tag n : ℕ) → (tag ≡ 1 → ⊥) → (tag ≡ 2 → ⊥) → (tag ≡ 3 → ⊥) → false ≡ is_listed tag n
 unfolding is_listed
@@ -33,5 +21,5 @@ unfolding field_value
 value_short file at tag bytes = by_fault (first_fault (field file at tag))
   where
     by_fault : (found : Option Fault) → length (unless_fault found (take (field_length file at) (drop (value_at at) file))) < 2 ^ 16
-    by_fault none = rw length-take (omega (arith, read_below 2 file (at + 1) bytes))
-    by_fault (some f) = omega arith
+    by_fault None = rw length-take (omega (arith, read_below 2 file (at + 1) bytes))
+    by_fault (Some f) = omega arith

@@ -5,7 +5,7 @@ use mathlib.Core.Path.{◌≡◌, refl, sym, ap, ◌∙◌}
 use mathlib.Core.Logic.{◌↔◌}
 use mathlib.Core.Bool.{Bool, true, false}
 use mathlib.Core.List.{List}
-use mathlib.Core.Option.{Option, none, some}
+use Rattle.std.specs.Prelude.{Option, None, Some, Result, Ok, Err}
 use native.Mathlib.Omega.{arith}
 use Rattle.model.specs.declared.Layout.{Layout}
 use Rattle.model.specs.declared.Refusal.{Refusal}
@@ -16,10 +16,9 @@ use Rattle.model.specs.Rules.{TargetPlaced, TargetKept, ModuleHolds, ModulePlace
 use Rattle.model.proofs.Accepted.{readable_iff, sweepable_iff}
 use Rattle.model.proofs.Targets.{module_placed}
 use Rattle.model.proofs.Stretches.{code_whole, targets_whole}
-use Rattle.reader.specs.declared.read.Parsed.{Parsed}
-use Rattle.reader.specs.declared.read.Parsed.TheVariants as Parseds
-use Rattle.reader.specs.declared.read.Reading.{Reading}
-use Rattle.reader.specs.Readings.{holds, refused, asked, read_report, reading_by, reading_of, Loaded}
+use Rattle.reader.specs.declared.module.Module.{Module}
+use Rattle.reader.specs.Readings.{holds, refused, asked, read_report, reading_by, reading_of}
+use Rattle.reader.specs.Loading.{Loaded}
 
 -- what is asked of a target, in the rules' terms
 abbrev pub Asked : Bool → ℕ → (ℕ → TargetRow) → ℕ → Type 0
@@ -32,9 +31,9 @@ pub record ReadFacts (claims : Bool) (file : List ℕ) (l : Layout) (n k : ℕ) 
   pub count_is : n ≡ instruction_count (code_in file)
   pub is_targets : k ≡ target_count (targets_in file)
   pub loaded : Loaded l (code_in file) (targets_in file) n k
-  pub faultless : first_fault (readable_by (asked claims) file) ≡ none
+  pub faultless : first_fault (readable_by (asked claims) file) ≡ None
 
-asked_iff : (claims : Bool) (file : List ℕ) → (first_fault (readable_by (asked claims) file) ≡ none) ↔ FileHolds (Asked claims) file
+asked_iff : (claims : Bool) (file : List ℕ) → (first_fault (readable_by (asked claims) file) ≡ None) ↔ FileHolds (Asked claims) file
 asked_iff true = readable_iff
 asked_iff false = sweepable_iff
 
@@ -64,7 +63,7 @@ module _ (claims : Bool) (file : List ℕ) where
   read_holds l n k is = by_fault (first_fault (readable_by (asked claims) file)) refl is
     where
       by_fault : (found : Option Fault) → first_fault (readable_by (asked claims) file) ≡ found → read_report file found ≡ holds l n k → ReadFacts claims file l n k
-      by_fault none passed same =
+      by_fault None passed same =
           let kept : FileHolds (Asked claims) file = (asked_iff claims file).0 passed in
           let same_layout : l ≡ layout_in file = cc in
           let is-n : n ≡ instruction_count (code_in file) = cc in
@@ -77,23 +76,31 @@ module _ (claims : Bool) (file : List ℕ) where
             loaded = rw (same_layout, is-n, is-k) (kept_loaded kept);
             faultless = passed;
           }
-      by_fault (some f) named same = absurd (let z : ◌≡◌ {A = ℕ} 0 1 = cc in omega arith)
+      by_fault (Some f) named same = absurd (let z : ◌≡◌ {A = ℕ} 0 1 = cc in omega arith)
 
-  pub read_refuses : (f : Fault) → reading_by claims file ≡ refused f → first_fault (readable_by (asked claims) file) ≡ some f
+  -- and where the stretches of its code and targets are held by themselves
+  pub module_loaded : {l : Layout} {code targets : List ℕ} → code ≡ code_in file → targets ≡ targets_in file
+      → holds l (instruction_count code) (target_count targets) ≡ reading_by claims file
+      → Loaded l code targets (instruction_count code) (target_count targets)
+  module_loaded {l} {code} {targets} is_code is_targets held =
+      let read : reading_by claims file ≡ holds l (instruction_count code) (target_count targets) = sym held in
+      rw (is_code, is_targets) (read_holds _ _ _ (rw (is_code, is_targets) at read)).loaded
+
+  pub read_refuses : (f : Fault) → reading_by claims file ≡ refused f → first_fault (readable_by (asked claims) file) ≡ Some f
   unfolding reading_by
   read_refuses f is = by_fault (first_fault (readable_by (asked claims) file)) refl is
     where
       by_fault : (found : Option Fault) → first_fault (readable_by (asked claims) file) ≡ found → read_report file found ≡ refused f
-          → first_fault (readable_by (asked claims) file) ≡ some f
-      by_fault none passed same = absurd (let z : ◌≡◌ {A = ℕ} 0 1 = cc in omega arith)
-      by_fault (some g) named same = let this : g ≡ f = cc in named ∙ ap some this
+          → first_fault (readable_by (asked claims) file) ≡ Some f
+      by_fault None passed same = absurd (let z : ◌≡◌ {A = ℕ} 0 1 = cc in omega arith)
+      by_fault (Some g) named same = let this : g ≡ f = cc in named ∙ ap Some this
 
   -- and the same of what the reader answers
-  module _ (p : Parsed) (answers : reading_of p ≡ reading_by claims file) where
-    pub parsed_holds : (r : Reading) → p ≡ Parseds.Module r → ReadFacts claims file r.layout r.instructions r.targets
+  module _ (p : Result Module Refusal) (answers : reading_of p ≡ reading_by claims file) where
+    pub module_read : (m : Module) → p ≡ Ok m → ReadFacts claims file m.layout m.held.instructions m.held.targets
     unfolding reading_of
-    parsed_holds r is = read_holds r.layout r.instructions r.targets (sym answers ∙ ap reading_of is)
+    module_read m is = read_holds m.layout m.held.instructions m.held.targets (sym answers ∙ ap reading_of is)
 
-    pub parsed_refuses : (x : Refusal) → p ≡ Parseds.Refused x → first_fault (readable_by (asked claims) file) ≡ some (fault_of x)
+    pub file_refused : (x : Refusal) → p ≡ Err x → first_fault (readable_by (asked claims) file) ≡ Some (fault_of x)
     unfolding reading_of
-    parsed_refuses x is = read_refuses (fault_of x) (sym answers ∙ ap reading_of is)
+    file_refused x is = read_refuses (fault_of x) (sym answers ∙ ap reading_of is)

@@ -1,10 +1,10 @@
 -- What was found, in the model's terms. Assumes nothing.
-use Rattle.std.proofs.Math.Option.{Option, none, some}
+use Rattle.std.specs.Prelude.{Option, None, Some, Result, Ok, Err}
+use Rattle.model.specs.declared.Refusal.{Refusal}
 use Rattle.model.specs.Obligations.{Fault}
 use Rattle.model.specs.Answers.{fault_of}
-use Rattle.reader.specs.declared.finding.Finding.{Finding}
-use Rattle.reader.specs.declared.finding.Finding.TheVariants.{Met, Unmet}
 
-unfoldable pub fault_in : Finding → Option Fault
-fault_in Met = none
-fault_in (Unmet r) = some (fault_of r)
+-- the fault of a refusal; none where there is an answer
+unfoldable pub fault_in : {A : Type 0} → Result A Refusal → Option Fault
+fault_in (Ok answer) = None
+fault_in (Err r) = Some (fault_of r)

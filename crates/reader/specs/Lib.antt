@@ -2,5 +2,6 @@ pub mod Findings
 pub mod Fields
 pub mod Decoding
 pub mod Lookups
+pub mod Loading
 pub mod Readings
 pub mod Marks

@@ -1,19 +1,14 @@
--- What the reader answers of a whole file, in the model's terms, and what machine and verifier go on with. Assumes nothing.
-use Rattle.std.specs.Prelude.{ℕ, ◌*◌, ◌≤◌, ◌≡◌, Bool, true, false, List, length}
-use Rattle.std.proofs.Math.Option.{Option, none, some}
+-- What the reader answers of a whole file, in the model's terms. Assumes nothing.
+use Rattle.std.specs.Prelude.{ℕ, Bool, true, false, List, Result, Ok, Err, Option, None, Some}
+use Rattle.std.specs.Borrow.{Bor}
 use Rattle.model.specs.declared.Layout.{Layout}
 use Rattle.model.specs.Obligations.{Fault, first_fault}
 use Rattle.model.specs.Answers.{fault_of}
-use Rattle.model.specs.File.{most_instructions, most_targets, field, code_start, targets_at, code_in, targets_in, instruction_count, target_count, layout_in, TargetRow, is_placed_target, is_good_target, readable_by}
-use Rattle.model.specs.Rules.{ModulePlaced}
-use Rattle.reader.specs.declared.read.Parsed.{Parsed}
-use Rattle.reader.specs.declared.read.Parsed.TheVariants as Parseds
-
--- the three fields stand whole
-pub record FieldsStand (file : List ℕ) : Type 0 where
-  pub layout_field : first_fault (field file 0 1) ≡ none
-  pub code_field : first_fault (field file code_start 2) ≡ none
-  pub targets_field : first_fault (field file (targets_at file) 3) ≡ none
+use Rattle.model.specs.File.{code_start, targets_at, code_in, targets_in, instruction_count, target_count, layout_in, TargetRow, is_placed_target, is_good_target, readable_by, program_of}
+use Rattle.model.specs.Program.{Program}
+use Rattle.model.specs.declared.Refusal.{Refusal}
+use Rattle.reader.specs.declared.module.Module.{Module}
+use Rattle.reader.specs.Fields.{ValuePart}
 
 -- layout and counts, or the first of refusals 1 to 7
 pub data ReadReport : Type 0 where
@@ -21,8 +16,8 @@ pub data ReadReport : Type 0 where
   refused : Fault → ReadReport
 
 abbrev pub read_report : List ℕ → Option Fault → ReadReport
-read_report file none = holds (layout_in file) (instruction_count (code_in file)) (target_count (targets_in file))
-read_report file (some f) = refused f
+read_report file None = holds (layout_in file) (instruction_count (code_in file)) (target_count (targets_in file))
+read_report file (Some f) = refused f
 
 -- what is asked of a target: all of rule 7, or all but the order of claims' ends
 abbrev pub asked : Bool → ℕ → (ℕ → TargetRow) → ℕ → Bool
@@ -35,17 +30,15 @@ reading_by claims file = read_report file (first_fault (readable_by (asked claim
 abbrev pub reading : List ℕ → ReadReport
 reading = reading_by true
 
-unfoldable pub reading_of : Parsed → ReadReport
-reading_of (Parseds.Module r) = holds r.layout r.instructions r.targets
-reading_of (Parseds.Refused r) = refused (fault_of r)
+unfoldable pub reading_of : Result Module Refusal → ReadReport
+reading_of (Ok m) = holds m.layout m.held.instructions m.held.targets
+reading_of (Err r) = refused (fault_of r)
 
--- what machine and verifier go on with: a layout, n instructions and k targets that keep rules 5 to 7 but for the order of claims'
--- ends, as the stretches of a file are that is read, claims ignored or not
-pub record Loaded (l : Layout) (code targets : List ℕ) (n k : ℕ) : Type 0 where
-  pub kept : ModulePlaced l code targets
-  pub code_whole : length code ≡ 8 * n
-  pub targets_whole : length targets ≡ 68 * k
-  pub n_some : 1 ≤ n
-  pub n_most : n ≤ most_instructions
-  pub k_some : 1 ≤ k
-  pub k_most : k ≤ most_targets
+-- the module in the model's terms
+abbrev pub program : Module → Program
+program m = program_of m.layout m.code.now m.targets.now
+
+-- the code and the targets of a module are the values of the file's second and third field
+pub record PartsOf (file : Bor (List ℕ)) (m : Module) : Type 0 where
+  pub code : ValuePart file m.code code_start 2
+  pub targets : ValuePart file m.targets (targets_at file.now) 3

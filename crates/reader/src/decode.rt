@@ -1,22 +1,10 @@
 // The decoder: "The opcode decides which of the bytes a, b, w and imm are used; unused ones are zero."
-ghost use Rattle.std.specs.Prelude.{◌≡◌, true, ◌&&◌, ℕ, ◌+◌, ◌≤◌, length};
-ghost use Rattle.std.proofs.Math.Option.{some};
+ghost use Rattle.std.specs.Prelude.{◌≡◌, ℕ, ◌+◌, ◌≤◌, length, Some};
 ghost use Rattle.model.specs.declared.Instruction.{Instruction};
-ghost use Rattle.model.specs.declared.LoadWidth.{LoadWidth};
-ghost use Rattle.model.specs.declared.Test.{Test};
-ghost use Rattle.model.specs.declared.Width.{Width};
-ghost use Rattle.model.specs.Quantifiers.{any_of};
-ghost use Rattle.model.specs.File.{is_register, is_amount, has_nothing, has_a, has_a_b, has_a_amount, has_imm, has_a_imm, has_a_b_w_imm, width_of, load_width_of, test_of, provided, decode, instruction_at, instruction_in};
-ghost use Rattle.reader.specs.Decoding.{instruction_of, Fetches};
+ghost use Rattle.model.specs.File.{is_register, is_amount, has_nothing, has_a, has_a_b, has_a_amount, has_imm, has_a_imm, has_a_b_w_imm, width_of, load_width_of, test_of, decode, instruction_at, instruction_in};
+ghost use Rattle.reader.specs.Decoding.{Fetches};
 
 use model::{Instruction, LoadWidth, Test, Width};
-
-// The instruction, or that the bytes are none.
-#[derive(Clone, Copy)]
-pub enum Decoded {
-    Is { instruction: Instruction },
-    Not,
-}
 
 // The bytes of an instruction.
 pub const INSTRUCTION: usize = 8;
@@ -24,300 +12,210 @@ pub const INSTRUCTION: usize = 8;
 fn is_register(r: u8) -> bool
     ensures { result ≡ is_register r }
 {
-    match r {
-        0..=7 => true,
-        _ => false,
-    }
+    matches!(r, 0..=7)
 }
 
 fn is_amount(w: u8) -> bool
     ensures { result ≡ is_amount w }
 {
-    match w {
-        0..=31 => true,
-        _ => false,
-    }
+    matches!(w, 0..=31)
 }
 
-// "For load and store w is 1, 2 or 4."
-fn is_width(w: u8) -> bool
-    ensures { result ≡ any_of (width_of w) (λ v. true) }
+// "For load and store w is 1, 2 or 4." This and the two below are three tables of document 01, a function
+// each; they answer an `Option`, as an error of theirs would say no more.
+fn width_of(w: u8) -> Option<Width>
+    ensures { result ≡ width_of w }
 {
     match w {
-        1 => true,
-        2 => true,
-        4 => true,
-        _ => false,
+        1 => Some(Width::One),
+        2 => Some(Width::Two),
+        4 => Some(Width::Four),
+        _ => None,
     }
 }
 
 // "Load gets two more widths: w 129 and w 130"
-fn is_load_width(w: u8) -> bool
-    ensures { result ≡ any_of (load_width_of w) (λ v. true) }
+fn load_width_of(w: u8) -> Option<LoadWidth>
+    ensures { result ≡ load_width_of w }
 {
     match w {
-        129 => true,
-        130 => true,
-        _ => is_width(w),
+        129 => Some(LoadWidth::SignedOne),
+        130 => Some(LoadWidth::SignedTwo),
+        _ => width_of(w).map(|width| LoadWidth::Unsigned { width }),
     }
 }
 
 // "For branch w is 0 (a = b), 1 (a < b unsigned) or 2 (a < b signed)."
-fn is_test(w: u8) -> bool
-    ensures { result ≡ any_of (test_of w) (λ t. true) }
+fn test_of(w: u8) -> Option<Test>
+    ensures { result ≡ test_of w }
 {
     match w {
-        0..=2 => true,
-        _ => false,
+        0 => Some(Test::Equal),
+        1 => Some(Test::Below),
+        2 => Some(Test::SignedBelow),
+        _ => None,
     }
+}
+
+// The bytes op, a, b and w of an instruction, and its immediate as a number.
+#[derive(Clone, Copy)]
+pub struct Encoding {
+    pub op: u8,
+    pub a: u8,
+    pub b: u8,
+    pub w: u8,
+    pub imm: u32,
 }
 
 // Which operands an opcode has: each one in its range, and the bytes of the others zero.
-fn has_imm(a: u8, b: u8, w: u8) -> bool
-    ensures { result ≡ has_imm a b w }
-{
-    if a != 0 {
-        return false;
+impl Encoding {
+    fn has_imm(self) -> bool
+        ensures { result ≡ has_imm self.a self.b self.w }
+    {
+        self.a == 0 && self.b == 0 && self.w == 0
     }
-    if b != 0 {
-        return false;
-    }
-    w == 0
-}
 
-fn has_a_imm(a: u8, b: u8, w: u8) -> bool
-    ensures { result ≡ has_a_imm a b w }
-{
-    if !is_register(a) {
-        return false;
+    fn has_a_imm(self) -> bool
+        ensures { result ≡ has_a_imm self.a self.b self.w }
+    {
+        is_register(self.a) && self.b == 0 && self.w == 0
     }
-    if b != 0 {
-        return false;
-    }
-    w == 0
-}
 
-fn has_a_b_w_imm(a: u8, b: u8) -> bool
-    ensures { result ≡ has_a_b_w_imm a b }
-{
-    if !is_register(a) {
-        return false;
+    fn has_a_b_w_imm(self) -> bool
+        ensures { result ≡ has_a_b_w_imm self.a self.b }
+    {
+        is_register(self.a) && is_register(self.b)
     }
-    is_register(b)
-}
 
-fn has_nothing(a: u8, b: u8, w: u8, imm: u32) -> bool
-    ensures { result ≡ has_nothing a b w imm }
-{
-    if !has_imm(a, b, w) {
-        return false;
+    fn has_nothing(self) -> bool
+        ensures { result ≡ has_nothing self.a self.b self.w self.imm }
+    {
+        self.has_imm() && self.imm == 0
     }
-    imm == 0
-}
 
-fn has_a(a: u8, b: u8, w: u8, imm: u32) -> bool
-    ensures { result ≡ has_a a b w imm }
-{
-    if !has_a_imm(a, b, w) {
-        return false;
+    fn has_a(self) -> bool
+        ensures { result ≡ has_a self.a self.b self.w self.imm }
+    {
+        self.has_a_imm() && self.imm == 0
     }
-    imm == 0
-}
 
-fn has_a_b(a: u8, b: u8, w: u8, imm: u32) -> bool
-    ensures { result ≡ has_a_b a b w imm }
-{
-    if !has_a_b_w_imm(a, b) {
-        return false;
+    fn has_a_b(self) -> bool
+        ensures { result ≡ has_a_b self.a self.b self.w self.imm }
+    {
+        self.has_a_b_w_imm() && self.w == 0 && self.imm == 0
     }
-    if w != 0 {
-        return false;
-    }
-    imm == 0
-}
 
-fn has_a_amount(a: u8, b: u8, w: u8, imm: u32) -> bool
-    ensures { result ≡ has_a_amount a b w imm }
-{
-    if !is_register(a) {
-        return false;
+    fn has_a_amount(self) -> bool
+        ensures { result ≡ has_a_amount self.a self.b self.w self.imm }
+    {
+        is_register(self.a) && self.b == 0 && is_amount(self.w) && self.imm == 0
     }
-    if b != 0 {
-        return false;
-    }
-    if !is_amount(w) {
-        return false;
-    }
-    imm == 0
-}
 
-// Where w is a width or a test: `listed` says that it is one of those.
-fn has_a_b_listed_imm(a: u8, b: u8, listed: bool) -> bool
-    ensures { result ≡ has_a_b_w_imm a b && listed }
-{
-    if !has_a_b_w_imm(a, b) {
-        return false;
+    // The instruction of the opcode, if its operands are as they should be.
+    #[tactic(auto, using(words::proofs::Signed::kept_signed, crate::proofs::Rows::no_instruction_lem, crate::proofs::Rows::provided_some, crate::proofs::Rows::provided_mapped), unfolding(model::specs::File::decode, model::specs::File::rows))]
+    pub fn decode(self) -> Option<Instruction>
+        ensures { result ≡ decode self.op self.a self.b self.w self.imm }
+    {
+        let Encoding { op, a, b, w, imm } = self;
+        match op {
+            0 => self.has_nothing().then_some(Instruction::Halt),
+            1 => self.has_a_imm().then_some(Instruction::Set { a, imm }),
+            2 => self.has_a_b().then_some(Instruction::Copy { a, b }),
+            3 => self.has_a_b().then_some(Instruction::Add { a, b }),
+            4 => self.has_a_imm().then_some(Instruction::Addi {
+                a,
+                imm: words::arithmetic::to_signed(imm),
+            }),
+            5 => self.has_a_b().then_some(Instruction::Sub { a, b }),
+            6 => self.has_a_imm().then_some(Instruction::Andi { a, imm }),
+            7 => self.has_a().then_some(Instruction::Guard { a }),
+            8 => self
+                .has_a_amount()
+                .then_some(Instruction::Shr { a, amount: w }),
+            9 => self
+                .has_a_amount()
+                .then_some(Instruction::Sar { a, amount: w }),
+            10 => {
+                let width = load_width_of(w)?;
+                self.has_a_b_w_imm().then_some(Instruction::Load {
+                    a,
+                    b,
+                    width,
+                    imm: words::arithmetic::to_signed(imm),
+                })
+            }
+            11 => {
+                let width = width_of(w)?;
+                self.has_a_b_w_imm().then_some(Instruction::Store {
+                    a,
+                    b,
+                    width,
+                    imm: words::arithmetic::to_signed(imm),
+                })
+            }
+            12 => self
+                .has_imm()
+                .then_some(Instruction::Jump { to: imm as usize }),
+            13 => {
+                let test = test_of(w)?;
+                self.has_a_b_w_imm().then_some(Instruction::Branch {
+                    a,
+                    b,
+                    test,
+                    to: imm as usize,
+                })
+            }
+            14 => self.has_a().then_some(Instruction::Check { a }),
+            15 => self.has_a().then_some(Instruction::Jumpr { a }),
+            _ => None,
+        }
     }
-    listed
-}
 
-// The instruction, if its operands are as they should be.
-fn when(good: bool, instruction: Instruction) -> Decoded
-    ensures { instruction_of result ≡ provided good (some instruction) }
-{
-    if good {
-        Decoded::Is { instruction }
-    } else {
-        Decoded::Not
-    }
-}
-
-// What w says, once it is known to be a width, a load's width, or a test.
-fn width_of(w: u8) -> Width
-    ensures { (v : Width) → width_of w ≡ some v → result ≡ v }
-{
-    match w {
-        1 => Width::One,
-        2 => Width::Two,
-        _ => Width::Four,
-    }
-}
-
-fn load_width_of(w: u8) -> LoadWidth
-    ensures { (v : LoadWidth) → load_width_of w ≡ some v → result ≡ v }
-{
-    match w {
-        129 => LoadWidth::SignedOne,
-        130 => LoadWidth::SignedTwo,
-        _ => LoadWidth::Unsigned { width: width_of(w) },
-    }
-}
-
-fn test_of(w: u8) -> Test
-    ensures { (t : Test) → test_of w ≡ some t → result ≡ t }
-{
-    match w {
-        0 => Test::Equal,
-        1 => Test::Below,
-        _ => Test::SignedBelow,
-    }
-}
-
-// The instruction of an opcode and its operand bytes.
-#[tactic(auto, using(words::proofs::Signed::kept_signed, crate::proofs::Rows::looked_up, crate::proofs::Rows::no_instruction_lem), unfolding(model::specs::File::decode, model::specs::File::rows, crate::specs::Decoding::instruction_of))]
-pub fn decode(op: u8, a: u8, b: u8, w: u8, imm: u32) -> Decoded
-    ensures { instruction_of result ≡ decode op a b w imm }
-{
-    match op {
-        0 => when(has_nothing(a, b, w, imm), Instruction::Halt),
-        1 => when(has_a_imm(a, b, w), Instruction::Set { a, imm }),
-        2 => when(has_a_b(a, b, w, imm), Instruction::Copy { a, b }),
-        3 => when(has_a_b(a, b, w, imm), Instruction::Add { a, b }),
-        4 => when(
-            has_a_imm(a, b, w),
-            Instruction::Addi {
+    // The instruction of what is known to be one: nothing is tested again, since a step that decodes anew takes more than twice as
+    // long. (Of bytes that are no instruction it is whatever the operands' low bits name.)
+    fn assemble(self) -> Instruction
+        ensures { (i : Instruction) → decode self.op self.a self.b self.w self.imm ≡ Some i → result ≡ i }
+    {
+        let Encoding { op, w, imm, .. } = self;
+        let a = self.a % 8;
+        let b = self.b % 8;
+        match op {
+            0 => Instruction::Halt,
+            1 => Instruction::Set { a, imm },
+            2 => Instruction::Copy { a, b },
+            3 => Instruction::Add { a, b },
+            4 => Instruction::Addi {
                 a,
                 imm: words::arithmetic::to_signed(imm),
             },
-        ),
-        5 => when(has_a_b(a, b, w, imm), Instruction::Sub { a, b }),
-        6 => when(has_a_imm(a, b, w), Instruction::Andi { a, imm }),
-        7 => when(has_a(a, b, w, imm), Instruction::Guard { a }),
-        8 => when(
-            has_a_amount(a, b, w, imm),
-            Instruction::Shr { a, amount: w },
-        ),
-        9 => when(
-            has_a_amount(a, b, w, imm),
-            Instruction::Sar { a, amount: w },
-        ),
-        10 => when(
-            has_a_b_listed_imm(a, b, is_load_width(w)),
-            Instruction::Load {
+            5 => Instruction::Sub { a, b },
+            6 => Instruction::Andi { a, imm },
+            7 => Instruction::Guard { a },
+            8 => Instruction::Shr { a, amount: w % 32 },
+            9 => Instruction::Sar { a, amount: w % 32 },
+            10 => Instruction::Load {
                 a,
                 b,
-                width: load_width_of(w),
+                width: load_width_of(w).unwrap_or(LoadWidth::Unsigned { width: Width::Four }),
                 imm: words::arithmetic::to_signed(imm),
             },
-        ),
-        11 => when(
-            has_a_b_listed_imm(a, b, is_width(w)),
-            Instruction::Store {
+            11 => Instruction::Store {
                 a,
                 b,
-                width: width_of(w),
+                width: width_of(w).unwrap_or(Width::Four),
                 imm: words::arithmetic::to_signed(imm),
             },
-        ),
-        12 => when(has_imm(a, b, w), Instruction::Jump { to: imm as usize }),
-        13 => when(
-            has_a_b_listed_imm(a, b, is_test(w)),
-            Instruction::Branch {
+            12 => Instruction::Jump { to: imm as usize },
+            13 => Instruction::Branch {
                 a,
                 b,
-                test: test_of(w),
+                test: test_of(w).unwrap_or(Test::SignedBelow),
                 to: imm as usize,
             },
-        ),
-        14 => when(has_a(a, b, w, imm), Instruction::Check { a }),
-        15 => when(has_a(a, b, w, imm), Instruction::Jumpr { a }),
-        _ => Decoded::Not,
+            14 => Instruction::Check { a },
+            _ => Instruction::Jumpr { a },
+        }
     }
-}
-
-// The instruction that an opcode and its operand bytes say, once they are known to be one: nothing is tested again. (Of bytes that
-// are no instruction it is whatever the operands' low bits name.)
-fn assemble(op: u8, first: u8, second: u8, w: u8, imm: u32) -> Instruction
-    ensures { (i : Instruction) → decode op first second w imm ≡ some i → result ≡ i }
-{
-    let a = first % 8;
-    let b = second % 8;
-    match op {
-        0 => Instruction::Halt,
-        1 => Instruction::Set { a, imm },
-        2 => Instruction::Copy { a, b },
-        3 => Instruction::Add { a, b },
-        4 => Instruction::Addi {
-            a,
-            imm: words::arithmetic::to_signed(imm),
-        },
-        5 => Instruction::Sub { a, b },
-        6 => Instruction::Andi { a, imm },
-        7 => Instruction::Guard { a },
-        8 => Instruction::Shr { a, amount: w % 32 },
-        9 => Instruction::Sar { a, amount: w % 32 },
-        10 => Instruction::Load {
-            a,
-            b,
-            width: load_width_of(w),
-            imm: words::arithmetic::to_signed(imm),
-        },
-        11 => Instruction::Store {
-            a,
-            b,
-            width: width_of(w),
-            imm: words::arithmetic::to_signed(imm),
-        },
-        12 => Instruction::Jump { to: imm as usize },
-        13 => Instruction::Branch {
-            a,
-            b,
-            test: test_of(w),
-            to: imm as usize,
-        },
-        14 => Instruction::Check { a },
-        _ => Instruction::Jumpr { a },
-    }
-}
-
-// The bytes of an instruction, and its immediate as a number.
-#[derive(Clone, Copy)]
-struct Encoding {
-    op: u8,
-    a: u8,
-    b: u8,
-    w: u8,
-    imm: u32,
 }
 
 // The eight bytes at an offset, where they are all there.
@@ -335,7 +233,8 @@ fn whole_encoding(code: &[u8], at: usize) -> Encoding
     }
 }
 
-// The eight bytes of an index; those past the end are zero.
+// The eight bytes of an index; those past the end are zero. Apart from the above, so that a fetch tests the length once and not at each
+// byte.
 fn encoding_at(code: &[u8], i: u32) -> Encoding
     ensures { decode result.op result.a result.b result.w result.imm ≡ instruction_in code.now i }
 {
@@ -353,11 +252,10 @@ fn encoding_at(code: &[u8], i: u32) -> Encoding
 }
 
 // The instruction at an index of the code, from its eight bytes; bytes past the end are zero.
-pub fn instruction_at(code: &[u8], i: u32) -> Decoded
-    ensures { instruction_of result ≡ instruction_in code.now i }
+pub fn instruction_at(code: &[u8], i: u32) -> Option<Instruction>
+    ensures { result ≡ instruction_in code.now i }
 {
-    let e = encoding_at(code, i);
-    decode(e.op, e.a, e.b, e.w, e.imm)
+    encoding_at(code, i).decode()
 }
 
 // The instruction at an index of code that keeps rule 6: nothing is judged again.
@@ -368,6 +266,5 @@ pub fn fetch(code: &[u8], i: u32) -> Instruction
     if code.len() < at + INSTRUCTION {
         return Instruction::Halt;
     }
-    let e = whole_encoding(code, at);
-    assemble(e.op, e.a, e.b, e.w, e.imm)
+    whole_encoding(code, at).assemble()
 }

@@ -1,22 +1,14 @@
 // Fields: "a one-byte tag, a two-byte length and that many bytes of value". Refusals 1, 2 and 3.
-ghost use Rattle.std.specs.Prelude.{◌≡◌, ◌+◌, ◌≤◌, ◌<◌};
-ghost use Rattle.model.specs.Answers.{rule_number};
-ghost use Rattle.model.specs.Obligations.{fault, first_fault};
+ghost use Rattle.std.specs.Prelude.{◌≡◌, ◌+◌, ◌≤◌, ◌<◌, IfOk};
+ghost use Rattle.model.specs.Obligations.{first_fault};
 ghost use Rattle.model.specs.File.{field_end, is_multiple, is_listed, field};
 ghost use Rattle.reader.specs.Findings.{fault_in};
-ghost use Rattle.reader.specs.Fields.{refused, field_report_of, field_judged, ValuePart};
+ghost use Rattle.reader.specs.Fields.{ValuePart};
 
 use crate::decode::INSTRUCTION;
-use crate::finding::Finding;
+use crate::read::{CODE_TAG, LAYOUT_TAG, TARGETS_TAG};
 use crate::target::TARGET;
 use model::{Refusal, Rule};
-
-// Where the value of a field lies, or the refusal.
-#[derive(Clone, Copy)]
-enum Field {
-    Value { start: usize, end: usize },
-    Refused { refusal: Refusal },
-}
 
 // The bytes of a tag and a length.
 pub const HEADER: usize = 3;
@@ -31,13 +23,7 @@ fn is_multiple(unit: u16, most: u16, n: u16) -> bool
     requires { 0 < unit }
     ensures { result ≡ is_multiple unit most n }
 {
-    if n % unit != 0 {
-        return false;
-    }
-    if n / unit < 1 {
-        return false;
-    }
-    n / unit <= most
+    n % unit == 0 && 1 <= n / unit && n / unit <= most
 }
 
 // The lengths that are listed for a tag.
@@ -45,49 +31,43 @@ fn is_listed(tag: u8, n: u16) -> bool
     ensures { result ≡ is_listed tag n }
 {
     match tag {
-        1 => n == 12,
-        2 => is_multiple(INSTRUCTION as u16, MOST_INSTRUCTIONS, n),
-        3 => is_multiple(TARGET as u16, MOST_TARGETS, n),
+        LAYOUT_TAG => n == 12,
+        CODE_TAG => is_multiple(INSTRUCTION as u16, MOST_INSTRUCTIONS, n),
+        TARGETS_TAG => is_multiple(TARGET as u16, MOST_TARGETS, n),
         _ => false,
     }
 }
 
-fn refusal_of(rule: Rule, place: u32) -> Field
-    ensures { field_report_of result ≡ refused (fault (rule_number rule) place) }
-{
-    Field::Refused {
-        refusal: Refusal { rule, place },
-    }
-}
-
-// The field that is due at an offset, with the tag that is due.
-fn locate_field(file: &[u8], at: u32, tag: u8) -> Field
-    ensures { field_report_of result ≡ field_judged file.now at tag }
+// The value of the field that is due at an offset, with the tag that is due: a part of the file, or the refusal.
+pub fn read_field(file: &[u8], at: u32, tag: u8) -> Result<&[u8], Refusal>
+    ensures judged { fault_in result ≡ first_fault (field file.now at tag) }
+    ensures value { IfOk result (λ part. ValuePart file.entry part at tag) }
 {
     let start = at as usize;
     let all = file.len();
-    if all < start {
-        return refusal_of(Rule::Truncated, at);
-    }
-    if all - start < HEADER {
-        return refusal_of(Rule::Truncated, at);
+    if all < start + HEADER {
+        return Err(Rule::Truncated.at(at));
     }
     if file[start] != tag {
-        return refusal_of(Rule::WrongTag, at);
+        return Err(Rule::WrongTag.at(at));
     }
     let length = words::bytes::read_u16(file, start + 1);
     if !is_listed(tag, length) {
-        return refusal_of(Rule::BadLength, at);
+        return Err(Rule::BadLength.at(at));
     }
     let value = start + HEADER;
     let n = length as usize;
     if all - value < n {
-        return refusal_of(Rule::Truncated, at);
+        return Err(Rule::Truncated.at(at));
     }
-    Field::Value {
-        start: value,
-        end: value + n,
-    }
+    Ok(&file[value..value + n])
+}
+
+// For those who have no verdict yet: the value, and nothing where the field is refused.
+pub fn field_value(file: &[u8], at: u32, tag: u8) -> &[u8]
+    ensures { ValuePart file.entry result at tag }
+{
+    read_field(file, at, tag).unwrap_or(&[])
 }
 
 // The offset behind the field at an offset, where the next one stands.
@@ -96,24 +76,4 @@ pub(crate) fn field_end(file: &[u8], at: u32) -> u32
     ensures { (result ≡ field_end file.now at) × (result ≤ at + 65538) }
 {
     at + (HEADER as u32) + (words::bytes::read_u16(file, (at as usize) + 1) as u32)
-}
-
-// The value itself, a part of the file; empty where the field is refused.
-pub fn field_value(file: &[u8], at: u32, tag: u8) -> &[u8]
-    ensures { ValuePart file.entry result at tag }
-{
-    match locate_field(file, at, tag) {
-        Field::Value { start, end } => &file[start..end],
-        Field::Refused { refusal: _ } => &file[0..0],
-    }
-}
-
-// The field judged, with its value left aside.
-pub fn check_field(file: &[u8], at: u32, tag: u8) -> Finding
-    ensures { fault_in result ≡ first_fault (field file.now at tag) }
-{
-    match locate_field(file, at, tag) {
-        Field::Value { start: _, end: _ } => Finding::Met,
-        Field::Refused { refusal } => Finding::Unmet { refusal },
-    }
 }

@@ -26,30 +26,21 @@ pub fn layout_of(bytes: &[u8]) -> Layout
 fn is_region_size(size: u32) -> bool
     ensures { result ≡ is_region_size size }
 {
-    match size {
-        256 | 512 | 1024 | 2048 | 4096 | 8192 | 16384 | 32768 | 65536 => true,
-        _ => false,
-    }
+    matches!(
+        size,
+        256 | 512 | 1024 | 2048 | 4096 | 8192 | 16384 | 32768 | 65536
+    )
 }
 
 // The rules of a layout.
+#[tactic(auto, using(crate::proofs::Layouts::region_size_positive), unfolding(model::specs::File::is_layout))]
 pub fn is_layout(layout: Layout) -> bool
     ensures { result ≡ is_layout layout }
 {
-    let base = layout.base;
-    let size = layout.size;
-    let guard = layout.guard;
-    if !is_region_size(size) {
-        return false;
-    }
-    if 4096 < guard {
-        return false;
-    }
-    if base % size != 0 {
-        return false;
-    }
-    if base < guard {
-        return false;
-    }
-    (base as u64) + (size as u64) + (guard as u64) <= 0x1_0000_0000
+    let Layout { base, size, guard } = layout;
+    is_region_size(size)
+        && guard <= 4096
+        && base % size == 0
+        && guard <= base
+        && (base as u64) + (size as u64) + (guard as u64) <= 0x1_0000_0000
 }

@@ -7,5 +7,6 @@ pub mod field;
 pub mod finding;
 pub mod layout;
 pub mod lookup;
+pub mod module;
 pub mod read;
 pub mod target;

@@ -1,6 +1,11 @@
--- What the parts of the verifier and of the machine say of their answers. A refusal's number is 0 where nothing is refused. None of this says that an answer is the right one.
+-- What the parts of the verifier, the machine and the writer say of their answers. None of this says that an answer is the right one.
 use Rattle.std.specs.Prelude.{◌≡◌, ℕ, ◌+◌, ◌*◌, ◌%◌, ◌<◌, ◌≤◌, ◌≢◌}
-use Rattle.reference.specs.Verdicts.{Held}
+use Rattle.reference.specs.declared.answer.Ending.{Ending}
+use Rattle.reference.specs.declared.answer.Ending.TheVariants.{Spent}
+use Rattle.reference.specs.declared.answer.Refusal.{Refusal}
+use Rattle.reference.specs.declared.answer.Rule.{Rule}
+use Rattle.reference.specs.Numbers.{rule_number}
+use Rattle.reference.specs.Verdicts.{Refused}
 
 -- A field's bytes are whole pieces of this size, at least one and at most so many.
 pub record Pieces (size most bytes : ℕ) : Type 0 where
@@ -13,42 +18,40 @@ pub record Listed (tag bytes : ℕ) : Type 0 where
   pub code : tag ≡ 2 → Pieces 8 4096 bytes
   pub doors : tag ≡ 3 → Pieces 68 256 bytes
 
--- A field's refusal is at most 3. With none, its value has a listed length and lies in the file.
-pub record FieldSaid (bytes start tag number size : ℕ) : Type 0 where
-  pub most : number ≤ 3
+-- A field's value has a listed length and lies in the file.
+pub record FieldFound (bytes start tag size : ℕ) : Type 0 where
   pub short : size < 65536
-  pub within : number ≡ 0 → start + 3 + size ≤ bytes
-  pub listed : number ≡ 0 → Listed tag size
+  pub within : start + 3 + size ≤ bytes
+  pub listed : Listed tag size
 
--- The layout's refusal is at most 5. With none, the counts are those handed over.
-pub record LaidSaid (n k number n' k' : ℕ) : Type 0 where
-  pub most : number ≤ 5
-  pub code : number ≡ 0 → n' ≡ n
-  pub doors : number ≡ 0 → k' ≡ k
+-- Refusals 1 to 5.
+pub record Misshapen (e : Refusal) : Type 0 where
+  pub some : 1 ≤ rule_number e.rule
+  pub most : rule_number e.rule ≤ 5
 
--- The shape's refusal is at most 5. With none, the file holds the counted instructions and doors and nothing more.
-pub record ShapeSaid (bytes number n k : ℕ) : Type 0 where
-  pub most : number ≤ 5
-  pub held : number ≡ 0 → Held bytes n k
-
--- Refusal 6 is at an instruction, 7 at a door.
-pub record LoadSaid (n k number place : ℕ) : Type 0 where
-  pub most : number ≤ 7
-  pub least : (number ≢ 0) → 6 ≤ number
-  pub code : number ≡ 6 → place < n
-  pub doors : number ≡ 7 → place < k
+-- Refusals 1 to 7.
+pub record Unread (e : Refusal) : Type 0 where
+  pub refused : Refused e
+  pub few : rule_number e.rule ≤ 7
 
 -- A demand that fails at an index is numbered 8 to 13.
-pub record Demand (number : ℕ) : Type 0 where
-  pub most : number ≤ 13
-  pub least : (number ≢ 0) → 8 ≤ number
+pub record Demand (rule : Rule) : Type 0 where
+  pub most : rule_number rule ≤ 13
+  pub least : 8 ≤ rule_number rule
 
 -- A failed demand is at one of the n instructions.
-pub record DemandAt (n number place : ℕ) : Type 0 where
-  pub demand : Demand number
-  pub index : (number ≢ 0) → place < n
+pub record DemandAt (n : ℕ) (e : Refusal) : Type 0 where
+  pub demand : Demand e.rule
+  pub index : e.place < n
 
--- A step ends the run with 0 to 3, or says by 5 that it goes on.
-pub record Ending (number : ℕ) : Type 0 where
-  pub most : number ≤ 5
-  pub unspent : number ≡ 4 → ⊥
+-- No step ends a run as spent.
+abbrev pub Unspent : Ending → Type 0
+Unspent ending = ending ≢ Spent
+
+-- Tables of n instructions and k doors are refused by 3, 5, 6 or 7: 6 is at an instruction, 7 at a door.
+pub record Untabled (n k : ℕ) (e : Refusal) : Type 0 where
+  pub least : 3 ≤ rule_number e.rule
+  pub unlisted : rule_number e.rule ≡ 4 → ⊥
+  pub most : rule_number e.rule ≤ 7
+  pub code : rule_number e.rule ≡ 6 → e.place < n
+  pub doors : rule_number e.rule ≡ 7 → e.place < k

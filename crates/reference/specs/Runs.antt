@@ -1,45 +1,36 @@
 -- What `run` says of its answer. That the steps are the listed ones and that the answer is the right one is not said here: the comparison with the other implementation tests it.
-use Rattle.std.specs.Prelude.{◌≡◌, ℕ, ◌<◌, ◌≤◌, true, false, List, ◌≢◌}
-use Rattle.reference.specs.declared.Ran.{Ran}
+use Rattle.std.specs.Prelude.{◌≡◌, ℕ, ◌<◌, ◌≤◌, List, ◌≢◌, MatchResult}
+use Rattle.reference.specs.declared.answer.Ran.{Ran}
+use Rattle.reference.specs.declared.answer.Ending.{Ending}
+use Rattle.reference.specs.declared.answer.Ending.TheVariants.{Spent}
+use Rattle.reference.specs.declared.answer.Refusal.{Refusal}
+use Rattle.reference.specs.declared.answer.Rule.{Rule}
+use Rattle.reference.specs.Numbers.{rule_number, ending_number}
 
 -- A run's refusal is numbered 1 to 7, 14 or 15.
-pub record Refusal (number : ℕ) : Type 0 where
-  pub some : 1 ≤ number
-  pub most : number ≤ 15
-  pub between : 7 < number → 14 ≤ number
+pub record RunRule (rule : Rule) : Type 0 where
+  pub some : 1 ≤ rule_number rule
+  pub most : rule_number rule ≤ 15
+  pub between : 7 < rule_number rule → 14 ≤ rule_number rule
 
--- Refused after no step, with registers and place as they were.
+-- No step, with registers and place as they were.
 pub record Kept (given : List ℕ) (stood : ℕ) (r : Ran) : Type 0 where
-  pub verdict : r.refused ≡ true
   pub steps : r.steps ≡ 0
   pub registers : r.registers ≡ given
   pub place : r.place ≡ stood
 
 -- A refused run leaves registers, place and every byte of memory as they were.
-pub record Unmoved (registers : List ℕ) (place : ℕ) (before after : List ℕ) (r : Ran) : Type 0 where
-  pub number : Refusal r.code
+pub record Unmoved (registers : List ℕ) (place : ℕ) (before after : List ℕ) (r : Ran) (refusal : Refusal) : Type 0 where
+  pub number : RunRule refusal.rule
   pub kept : Kept registers place r
   pub memory : after ≡ before
 
 -- A run makes at most its budget of steps and has an ending of 0 to 4. It is spent, ending 4, after just its budget, and has any other ending after at least one step.
-pub record Ended (budget : ℕ) (r : Ran) : Type 0 where
-  pub verdict : r.refused ≡ false
+pub record Ended (budget : ℕ) (r : Ran) (reached : Ending) : Type 0 where
   pub steps : r.steps ≤ budget
-  pub ending : r.code ≤ 4
-  pub spent : r.code ≡ 4 → r.steps ≡ budget
-  pub made : (r.code ≢ 4) → 1 ≤ r.steps
+  pub ending : ending_number reached ≤ 4
+  pub spent : reached ≡ Spent → r.steps ≡ budget
+  pub made : (reached ≢ Spent) → 1 ≤ r.steps
 
-pub data RunSaid (registers : List ℕ) (place budget : ℕ) (before after : List ℕ) (r : Ran) : Type 0 where
-  refused : Unmoved registers place before after r → RunSaid registers place budget before after r
-  ran : Ended budget r → RunSaid registers place budget before after r
-
--- The refusal with this number.
-pub record UnrunAs (registers : List ℕ) (place number : ℕ) (r : Ran) : Type 0 where
-  pub code : r.code ≡ number
-  pub kept : Kept registers place r
-
--- The run with this ending after this many steps.
-pub record EndedAs (ending made : ℕ) (r : Ran) : Type 0 where
-  pub verdict : r.refused ≡ false
-  pub code : r.code ≡ ending
-  pub steps : r.steps ≡ made
+abbrev pub RunSaid : List ℕ → ℕ → ℕ → List ℕ → List ℕ → Ran → Type 0
+RunSaid registers place budget before after r = MatchResult r.outcome (λ ending. Ended budget r ending) (λ e. Unmoved registers place before after r e)

@@ -1,150 +1,95 @@
 // The three fields and the layout: refusals 1 to 5.
-ghost use Rattle.std.specs.Prelude.{◌≡◌, true, length};
-ghost use Rattle.reference.specs.Parts.{FieldSaid, LaidSaid, Listed, ShapeSaid};
+ghost use Rattle.std.specs.Prelude.{◌≡◌, ◌<◌, ◌≤◌, length, IsTrue, MatchResult};
+ghost use Rattle.reference.specs.Parts.{FieldFound, Listed, Misshapen};
+ghost use Rattle.reference.specs.Verdicts.{Held};
 
-use super::read::{byte, wide, word};
+use super::answer::{Counts, Refusal, Rule};
+use super::layout::Layout;
+use super::read::{byte, half, word};
 
-#[derive(Clone, Copy)]
-pub(crate) struct Layout {
-    pub(crate) base: u32,
-    pub(crate) size: u32,
-    pub(crate) guard: u32,
-}
-
-// The refusal's number and place, the number 0 where there is none; then instructions, doors and layout.
+// How many instructions and doors a file has, and its layout.
 #[derive(Clone, Copy)]
 pub(crate) struct Shape {
-    pub(crate) number: u32,
-    pub(crate) place: usize,
     pub(crate) n: usize,
     pub(crate) k: usize,
     pub(crate) layout: Layout,
+    ghost most_code: { n ≤ 4096 },
+    ghost most_doors: { k ≤ 256 },
 }
 
-// A field's refusal, 0 where there is none, and the length of its value.
-#[derive(Clone, Copy)]
-struct Piece {
-    number: u32,
-    length: usize,
-}
-
-fn length_listed(tag: u32, length: usize) -> bool
-    ensures { result ≡ true → Listed tag length }
-{
-    if length == 0 {
-        return false;
+impl Shape {
+    pub(crate) fn counts(self) -> Counts
+        ensures code { result.instructions ≡ self.n }
+        ensures doors { result.doors ≡ self.k }
+    {
+        Counts {
+            instructions: self.n as u32,
+            doors: self.k as u32,
+        }
     }
+
+    // Where door j begins in the file.
+    pub(crate) fn door_at(self, j: u8) -> usize
+        ensures { result < 100000 }
+    {
+        21 + self.n * 8 + usize::from(j) * 68
+    }
+}
+
+// A tag is the byte that the file has, 1, 2 or 3, in a field's first place.
+fn length_listed(tag: u8, length: usize) -> bool
+    ensures { IsTrue result → Listed tag length }
+{
     match tag {
         1 => length == 12,
-        2 => length % 8 == 0 && length <= 32768,
-        _ => length % 68 == 0 && length <= 17408,
+        2 => 0 < length && length % 8 == 0 && length <= 32768,
+        _ => 0 < length && length % 68 == 0 && length <= 17408,
     }
 }
 
-fn field(file: &[u8], at: usize, tag: u32) -> Piece
-    ensures { FieldSaid (length file.now) at tag result.number result.length }
+// The length of a field's value.
+fn field(file: &[u8], at: usize, tag: u8) -> Result<usize, Refusal>
+    ensures { MatchResult result (λ size. FieldFound (length file.now) at tag size) (λ e. Misshapen e) }
 {
-    if file.len() <= at {
-        return Piece {
-            number: 1,
-            length: 0,
-        };
-    }
-    let left = file.len() - at;
+    let left = file.len().saturating_sub(at);
     if left < 3 {
-        return Piece {
-            number: 1,
-            length: 0,
-        };
+        return Err(Refusal::at(Rule::Short, at));
     }
     if byte(file, at) != tag {
-        return Piece {
-            number: 2,
-            length: 0,
-        };
+        return Err(Refusal::at(Rule::WrongTag, at));
     }
-    let length = wide(byte(file, at + 1)) % 256 + wide(byte(file, at + 2)) % 256 * 256;
+    let length = usize::from(half(file, at + 1));
     if !length_listed(tag, length) {
-        return Piece {
-            number: 3,
-            length: 0,
-        };
+        return Err(Refusal::at(Rule::BadLength, at));
     }
     if left - 3 < length {
-        return Piece {
-            number: 1,
-            length: 0,
-        };
+        return Err(Refusal::at(Rule::Short, at));
     }
-    Piece { number: 0, length }
+    Ok(length)
 }
 
-pub(crate) fn sound(base: u32, size: u32, guard: u32) -> bool {
-    if size < 256 {
-        return false;
-    }
-    if 65536 < size || 4096 < guard || base < guard {
-        return false;
-    }
-    if u32::count_ones(size) != 1 || base % size != 0 {
-        return false;
-    }
-    wide(base) + wide(size) + wide(guard) <= 4294967296
-}
-
-fn misshapen(number: u32, place: usize) -> Shape
-    ensures { result.number ≡ number }
+pub(crate) fn shape_of(file: &[u8]) -> Result<Shape, Refusal>
+    ensures { MatchResult result (λ s. Held (length file.now) s.n s.k) (λ e. Misshapen e) }
 {
-    Shape {
-        number,
-        place,
-        n: 0,
-        k: 0,
-        layout: Layout {
-            base: 0,
-            size: 0,
-            guard: 0,
-        },
-    }
-}
-
-pub(crate) fn shape_of(file: &[u8]) -> Shape
-    ensures { ShapeSaid (length file.now) result.number result.n result.k }
-{
-    let first = field(file, 0, 1);
-    if first.number != 0 {
-        return misshapen(first.number, 0);
-    }
-    let second = field(file, 15, 2);
-    if second.number != 0 {
-        return misshapen(second.number, 15);
-    }
-    let at = 18 + second.length;
-    let third = field(file, at, 3);
-    if third.number != 0 {
-        return misshapen(third.number, at);
-    }
-    let end = at + 3 + third.length;
+    field(file, 0, 1)?;
+    let code = field(file, 15, 2)?;
+    let at = 18 + code;
+    let doors = field(file, at, 3)?;
+    let end = at + 3 + doors;
     if end < file.len() {
-        return misshapen(4, end);
+        return Err(Refusal::at(Rule::Tail, end));
     }
-    laid_out(file, second.length / 8, third.length / 68)
-}
-
-fn laid_out(file: &[u8], n: usize, k: usize) -> Shape
-    ensures { LaidSaid n k result.number result.n result.k }
-{
-    let base = word(file, 3);
-    let size = word(file, 7);
-    let guard = word(file, 11);
-    if !sound(base, size, guard) {
-        return misshapen(5, 0);
+    let layout = Layout {
+        base: word(file, 3),
+        size: word(file, 7),
+        guard: word(file, 11),
+    };
+    if !layout.is_sound() {
+        return Err(Refusal::at(Rule::BadLayout, 0));
     }
-    Shape {
-        number: 0,
-        place: 0,
-        n,
-        k,
-        layout: Layout { base, size, guard },
-    }
+    Ok(Shape {
+        n: code / 8,
+        k: doors / 68,
+        layout,
+    })
 }

@@ -1,37 +1,79 @@
-// Ranges, and what one step changes of them: at most two registers. Exact sums are held 2^32 above their value,
-// so that the negative ones, those of 32 bits and those beyond lie in three blocks of 2^32.
+// Ranges, and what one step changes of them. Exact sums are held 2^32 above their value, so that the negative ones,
+// those of 32 bits and those beyond lie in three blocks of 2^32.
 ghost use Rattle.std.specs.Prelude.{◌<◌};
 
-use super::field::Layout;
-use super::read::{Ins, bytes, low, wide};
+use super::decode::{Ins, Op};
+use super::layout::Layout;
 
-#[derive(Clone, Copy)]
+const BLOCK: usize = 1 << 32;
+
+#[derive(Clone, Copy, PartialEq, Eq)]
 pub(crate) struct Span {
     pub(crate) lo: u32,
     pub(crate) hi: u32,
 }
 
-// Register b gets y, and then register a gets x; a register of 8 is none.
-#[derive(Clone, Copy)]
-pub(crate) struct Change {
-    pub(crate) a: u32,
-    pub(crate) x: Span,
-    pub(crate) b: u32,
-    pub(crate) y: Span,
-}
-
-pub(crate) fn least(x: u32, y: u32) -> u32 {
-    if x < y { x } else { y }
-}
-
-pub(crate) fn most(x: u32, y: u32) -> u32 {
-    if x < y { y } else { x }
-}
-
-fn anything() -> Span {
-    Span {
+impl Span {
+    pub(crate) const ANYTHING: Span = Span {
         lo: 0,
-        hi: 4294967295,
+        hi: u32::MAX,
+    };
+
+    fn is_empty(self) -> bool {
+        self.hi < self.lo
+    }
+
+    pub(crate) fn lies_in(self, other: Span) -> bool {
+        other.lo <= self.lo && self.hi <= other.hi
+    }
+
+    // The smallest range that covers both.
+    pub(crate) fn joined(self, other: Span) -> Span {
+        Span {
+            lo: self.lo.min(other.lo),
+            hi: self.hi.max(other.hi),
+        }
+    }
+
+    // What both have; beside `joined`, with the greatest for the least: a function that is told which would be longer.
+    fn met(self, other: Span) -> Span {
+        Span {
+            lo: self.lo.max(other.lo),
+            hi: self.hi.min(other.hi),
+        }
+    }
+}
+
+// The ranges of r0 to r7: what is known of them, or what a door claims.
+#[derive(Clone, Copy, PartialEq, Eq)]
+pub(crate) struct Known {
+    pub(crate) spans: [Span; 8],
+}
+
+impl Known {
+    pub(crate) const ANYTHING: Known = Known {
+        spans: [Span::ANYTHING; 8],
+    };
+
+    pub(crate) fn of(&self, r: usize) -> Span {
+        self.spans[r % 8]
+    }
+
+    pub(crate) fn with(mut self, r: usize, x: Span) -> Known {
+        self.spans[r % 8] = x;
+        self
+    }
+
+    // Whether each lowest is at most its highest.
+    pub(crate) fn is_ordered(&self) -> bool {
+        self.spans.iter().all(|x| !x.is_empty())
+    }
+
+    pub(crate) fn lies_in(&self, claim: &Known) -> bool {
+        self.spans
+            .iter()
+            .zip(claim.spans.iter())
+            .all(|(x, y)| x.lies_in(*y))
     }
 }
 
@@ -39,86 +81,76 @@ fn anything() -> Span {
 pub(crate) fn raised(imm: u32) -> usize
     ensures { result < 8589934592 }
 {
-    if imm < 2147483648 {
-        wide(imm) + 4294967296
+    if imm < 1 << 31 {
+        imm as usize + BLOCK
     } else {
-        wide(imm)
+        imm as usize
     }
 }
 
+// The remainder is written out, since `as` must lose nothing.
+fn low(x: usize) -> u32 {
+    (x % BLOCK) as u32
+}
+
 fn rule_w(lo: usize, hi: usize) -> Span {
-    if lo / 4294967296 == hi / 4294967296 {
+    if lo / BLOCK == hi / BLOCK {
         Span {
             lo: low(lo),
             hi: low(hi),
         }
     } else {
-        anything()
+        Span::ANYTHING
     }
 }
 
 fn summed(x: Span, y: Span) -> Span {
     rule_w(
-        4294967296 + wide(x.lo) + wide(y.lo),
-        4294967296 + wide(x.hi) + wide(y.hi),
+        BLOCK + x.lo as usize + y.lo as usize,
+        BLOCK + x.hi as usize + y.hi as usize,
     )
 }
 
 fn moved(x: Span, imm: u32) -> Span {
-    rule_w(wide(x.lo) + raised(imm), wide(x.hi) + raised(imm))
+    rule_w(x.lo as usize + raised(imm), x.hi as usize + raised(imm))
 }
 
 fn less(x: Span, y: Span) -> Span {
     rule_w(
-        4294967296 + wide(x.lo) - wide(y.hi),
-        4294967296 + wide(x.hi) - wide(y.lo),
+        BLOCK + x.lo as usize - y.hi as usize,
+        BLOCK + x.hi as usize - y.lo as usize,
     )
 }
 
-// An arithmetic shift: the sign is spread over 64 bits first.
+// An arithmetic shift.
 pub(crate) fn sar(v: u32, w: u32) -> u32 {
-    let s = w % 32;
-    if v < 2147483648 {
-        low(wide(v) >> s)
-    } else {
-        low((wide(v) + 18446744069414584320) >> s)
-    }
+    (v.cast_signed() >> (w % 32)).cast_unsigned()
 }
 
 fn shifted(x: Span, w: u32) -> Span {
-    let s = w % 32;
     Span {
-        lo: x.lo >> s,
-        hi: x.hi >> s,
+        lo: x.lo >> (w % 32),
+        hi: x.hi >> (w % 32),
     }
 }
 
 fn signed_shifted(x: Span, w: u32) -> Span {
-    if x.lo / 2147483648 == x.hi / 2147483648 {
+    if x.lo >> 31 == x.hi >> 31 {
         Span {
             lo: sar(x.lo, w),
             hi: sar(x.hi, w),
         }
     } else {
-        anything()
+        Span::ANYTHING
     }
-}
-
-// The region's last address.
-fn last(l: Layout) -> u32 {
-    std::num::wrapping_sub_u32(std::num::wrapping_add_u32(l.base, l.size), 1)
 }
 
 fn guarded(x: Span, l: Layout) -> Span {
-    let top = last(l);
-    if l.base <= x.lo && x.hi <= top {
-        x
-    } else {
-        Span {
-            lo: l.base,
-            hi: top,
-        }
-    }
+    let region = Span {
+        lo: l.base,
+        hi: l.base.wrapping_add(l.size).wrapping_sub(1),
+    };
+    if x.lies_in(region) { x } else { region }
 }
 
 // After widths 129 and 130: "Their range afterwards is anything."
@@ -126,7 +158,7 @@ fn loaded(w: u32) -> Span {
     match w {
         1 => Span { lo: 0, hi: 255 },
         2 => Span { lo: 0, hi: 65535 },
-        _ => anything(),
+        _ => Span::ANYTHING,
     }
 }
 
@@ -134,130 +166,106 @@ fn loaded(w: u32) -> Span {
 // lie in the region. The ends are compared as sums with imm, so that none wraps.
 fn reached(i: Ins, y: Span, l: Layout) -> Span {
     let imm = raised(i.imm);
-    let count = wide(bytes(i.w));
-    let floor = 4294967296 + wide(l.base);
-    let end = floor + wide(l.size);
-    let lowest = wide(y.lo) + imm;
-    let highest = wide(y.hi) + imm + count;
-    if highest < floor + count {
+    let count = i.bytes() as usize;
+    let floor = BLOCK + l.base as usize;
+    let end = floor + l.size as usize;
+    let lowest = y.lo as usize + imm;
+    let highest = y.hi as usize + imm + count;
+    if highest < floor + count || end < lowest + count {
         return y;
     }
-    if end < lowest + count {
-        return y;
-    }
-    let lo = if lowest < floor {
-        low(floor - imm)
-    } else {
-        y.lo
-    };
-    let hi = if end < highest {
-        low(end - count - imm)
-    } else {
-        y.hi
-    };
-    Span { lo, hi }
-}
-
-// The range after an instruction with opcode 1 to 9, from those of a and b.
-fn computed(i: Ins, x: Span, y: Span, l: Layout) -> Span {
-    let op = i.op;
-    match op {
-        1 => Span {
-            lo: i.imm,
-            hi: i.imm,
+    Span {
+        lo: if lowest < floor {
+            low(floor - imm)
+        } else {
+            y.lo
         },
-        2 => y,
-        3 => summed(x, y),
-        4 => moved(x, i.imm),
-        5 => less(x, y),
-        6 => Span {
-            lo: 0,
-            hi: least(x.hi, i.imm),
+        hi: if end < highest {
+            low(end - count - imm)
+        } else {
+            y.hi
         },
-        7 => guarded(x, l),
-        8 => shifted(x, i.w),
-        _ => signed_shifted(x, i.w),
     }
 }
 
-pub(crate) fn unchanged(x: Span, y: Span) -> Change {
-    Change { a: 8, x, b: 8, y }
-}
-
-// Both cuts of rule B, or none if one would be empty.
-fn both(i: Ins, x: Span, y: Span) -> Change {
-    if x.hi < x.lo || y.hi < y.lo {
-        unchanged(x, y)
-    } else {
-        Change {
-            a: i.a,
-            x,
-            b: i.b,
-            y,
+impl Known {
+    // Both cuts of rule B, x for a and y for b, or none if one would be empty. The ranges stay apart in this and the two below, as each
+    // cut is made of others.
+    fn cut(self, i: Ins, x: Span, y: Span) -> Known {
+        if x.is_empty() || y.is_empty() {
+            self
+        } else {
+            self.with(i.b, y).with(i.a, x)
         }
     }
-}
 
-fn cuts(i: Ins) -> bool {
-    i.a != i.b && i.w != 2
-}
+    // Where a is below b.
+    fn cut_below(self, i: Ins, x: Span, y: Span) -> Known {
+        if y.hi == 0 || x.lo == u32::MAX {
+            return self;
+        }
+        let hi = x.hi.min(y.hi - 1);
+        let lo = y.lo.max(x.lo + 1);
+        self.cut(i, Span { lo: x.lo, hi }, Span { lo, hi: y.hi })
+    }
 
-fn cut_below(i: Ins, x: Span, y: Span) -> Change {
-    if y.hi == 0 {
-        return unchanged(x, y);
+    // Where a is not below b.
+    fn cut_above(self, i: Ins, x: Span, y: Span) -> Known {
+        let lo = x.lo.max(y.lo);
+        let hi = y.hi.min(x.hi);
+        self.cut(i, Span { lo, hi: x.hi }, Span { lo: y.lo, hi })
     }
-    if x.lo == 4294967295 {
-        return unchanged(x, y);
-    }
-    let hi = least(x.hi, y.hi - 1);
-    let lo = most(y.lo, x.lo + 1);
-    both(i, Span { lo: x.lo, hi }, Span { lo, hi: y.hi })
-}
 
-pub(crate) fn taken(i: Ins, x: Span, y: Span) -> Change {
-    if !cuts(i) {
-        return unchanged(x, y);
+    // Along the edge that a jump or a branch makes. A jump names no two registers, so nothing is cut for it.
+    pub(crate) fn taken(self, i: Ins) -> Known {
+        let x = self.of(i.a);
+        let y = self.of(i.b);
+        match i.w {
+            _ if i.a == i.b => self,
+            0 => self.cut(i, x.met(y), x.met(y)),
+            1 => self.cut_below(i, x, y),
+            _ => self,
+        }
     }
-    if i.w == 1 {
-        return cut_below(i, x, y);
-    }
-    let lo = most(x.lo, y.lo);
-    let hi = least(x.hi, y.hi);
-    both(i, Span { lo, hi }, Span { lo, hi })
-}
 
-fn untaken(i: Ins, x: Span, y: Span) -> Change {
-    if !cuts(i) || i.w == 0 {
-        return unchanged(x, y);
+    fn untaken(self, i: Ins) -> Known {
+        if i.a != i.b && i.w == 1 {
+            self.cut_above(i, self.of(i.a), self.of(i.b))
+        } else {
+            self
+        }
     }
-    let lo = most(x.lo, y.lo);
-    let hi = least(y.hi, x.hi);
-    both(i, Span { lo, hi: x.hi }, Span { lo: y.lo, hi })
-}
 
-// The change along the edge to the next index.
-pub(crate) fn after(i: Ins, x: Span, y: Span, l: Layout) -> Change {
-    let op = i.op;
-    match op {
-        0 | 12 | 14 | 15 => unchanged(x, y),
-        10 => Change {
-            a: i.a,
-            x: loaded(i.w),
-            b: i.b,
-            y: reached(i, y, l),
-        },
-        11 => Change {
-            a: 8,
-            x,
-            b: i.b,
-            y: reached(i, y, l),
-        },
-        13 => untaken(i, x, y),
-        _ => Change {
-            a: i.a,
-            x: computed(i, x, y, l),
-            b: 8,
-            y,
-        },
+    // Along the edge to the next index.
+    pub(crate) fn after(self, i: Ins, l: Layout) -> Known {
+        let x = self.of(i.a);
+        let y = self.of(i.b);
+        match i.op {
+            Op::Halt | Op::Jump | Op::Check | Op::Jumpr => self,
+            Op::Set => self.with(
+                i.a,
+                Span {
+                    lo: i.imm,
+                    hi: i.imm,
+                },
+            ),
+            Op::Copy => self.with(i.a, y),
+            Op::Add => self.with(i.a, summed(x, y)),
+            Op::Addi => self.with(i.a, moved(x, i.imm)),
+            Op::Sub => self.with(i.a, less(x, y)),
+            Op::Andi => self.with(
+                i.a,
+                Span {
+                    lo: 0,
+                    hi: x.hi.min(i.imm),
+                },
+            ),
+            Op::Guard => self.with(i.a, guarded(x, l)),
+            Op::Shr => self.with(i.a, shifted(x, i.w)),
+            Op::Sar => self.with(i.a, signed_shifted(x, i.w)),
+            Op::Load => self.with(i.b, reached(i, y, l)).with(i.a, loaded(i.w)),
+            Op::Store => self.with(i.b, reached(i, y, l)),
+            Op::Branch => self.untaken(i),
+        }
     }
 }

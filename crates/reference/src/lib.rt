@@ -1,16 +1,20 @@
 // The rules of the scope document by tables: a module file is laid out in flat arrays, which are then
-// gone through by index. What lies past an array's end reads as 0, so no reader asks for a bound.
+// gone through by index. What lies past an end reads as 0, a halt or no door, so no reader asks for a bound. It shares no
+// function and no type with what it is compared with.
 #![tactic(auto)]
 
-ghost use Rattle.std.specs.Prelude.{length};
-ghost use Rattle.reference.specs.Runs.{RunSaid};
-ghost use Rattle.reference.specs.Verdicts.{RefusedAs, VerifySaid};
+ghost use Rattle.std.specs.Prelude.{◌≤◌, length, MatchResult};
+ghost use Rattle.reference.specs.Runs.{RunRule, RunSaid};
+ghost use Rattle.reference.specs.Verdicts.{VerifySaid};
 ghost use Rattle.reference.specs.Works.{WorkSaid};
-ghost use Rattle.reference.specs.Writes.{UnwrittenAs, WriteSaid};
+ghost use Rattle.reference.specs.Writes.{WriteSaid};
 
+mod answer;
+mod decode;
+mod door;
 mod field;
-mod fill;
 mod know;
+mod layout;
 mod load;
 mod machine;
 mod read;
@@ -19,111 +23,38 @@ mod sweep;
 mod tables;
 mod widen;
 
-use field::shape_of;
-use fill::{file_length, fill};
-use load::load;
-use machine::{start, unrun};
-use read::low;
-use rules::judge_all;
-use sweep::judge_worked_out;
-use tables::judge_tables;
-use widen::write_claims;
-
-#[derive(Clone, Copy)]
-pub struct Judged {
-    pub accepted: bool,
-    pub first: u32,
-    pub second: u32,
-}
-
-#[derive(Clone, Copy)]
-pub struct Ran {
-    pub registers: [u32; 8],
-    pub place: u16,
-    pub refused: bool,
-    pub code: u32,
-    pub at: u32,
-    pub steps: u32,
-}
-
-// The file's length; or a refusal's number and place.
-#[derive(Clone, Copy)]
-pub struct Written {
-    pub refused: bool,
-    pub first: u32,
-    pub second: u32,
-}
-
-fn refused(number: u32, place: usize) -> Judged
-    ensures { RefusedAs number place result }
-{
-    Judged {
-        accepted: false,
-        first: number,
-        second: low(place),
-    }
-}
+pub use answer::{Counts, Ending, Ran, Refusal, Rule};
+pub use layout::Layout;
+use load::Module;
+use machine::Machine;
+use tables::Tables;
 
 // Accepted with instructions and doors, or refused with a number from 1 to 13 and its place. The contract does not
 // settle which of the two it is, nor which number and place: that the answer is right is tested by comparison.
-pub fn verify(file: &[u8]) -> Judged
+pub fn verify(file: &[u8]) -> Result<Counts, Refusal>
     ensures { VerifySaid (length file.now) result }
 {
-    let shape = shape_of(file);
-    if shape.number != 0 {
-        return refused(shape.number, shape.place);
-    }
-    let mut code = [0u32; 32768];
-    let mut claims = [0u32; 4096];
-    let loaded = load(file, shape.n, shape.k, false, &mut code, &mut claims);
-    if loaded.number != 0 {
-        return refused(loaded.number, loaded.place);
-    }
-    let layout = shape.layout;
-    let judged = judge_all(&code, &claims, layout, shape.n);
-    if judged.number != 0 {
-        return refused(judged.number, judged.place);
-    }
-    Judged {
-        accepted: true,
-        first: low(shape.n),
-        second: low(shape.k),
-    }
+    let module = Module::read(file, false)?;
+    module.judge()?;
+    Ok(module.shape.counts())
 }
 
 // Works out the inner doors' claims and writes them over those in the file, which are not looked at: ticket 3 of
 // document 02. The answer is `verify`'s of the file with these claims, and only a file that is accepted is written to.
 // The contract does not settle which answer it is, nor which claims are written: that both are right is tested by
 // comparison.
-pub fn work_out(file: &mut [u8]) -> Judged
+pub fn work_out(file: &mut [u8]) -> Result<Counts, Refusal>
     ensures { WorkSaid file.old file.new result }
 {
-    let shape = shape_of(file);
-    if shape.number != 0 {
-        return refused(shape.number, shape.place);
-    }
-    let mut code = [0u32; 32768];
-    let mut claims = [0u32; 4096];
-    let loaded = load(file, shape.n, shape.k, true, &mut code, &mut claims);
-    if loaded.number != 0 {
-        return refused(loaded.number, loaded.place);
-    }
-    let layout = shape.layout;
-    let judged = judge_worked_out(&code, &mut claims, layout, shape.n);
-    if judged.number != 0 {
-        return refused(judged.number, judged.place);
-    }
-    write_claims(file, shape.n, shape.k, &claims);
-    Judged {
-        accepted: true,
-        first: low(shape.n),
-        second: low(shape.k),
-    }
+    let mut module = Module::read(file, true)?;
+    module.claims = module.worked_out();
+    module.judge()?;
+    module.write_claims(file);
+    Ok(module.shape.counts())
 }
 
-// A run of at most budget steps: refused with a number of 1 to 7, 14 or 15, or with its ending, 0 halted,
-// 1 trapped, 2 turned away, 3 strayed, 4 spent. The contract does not settle which of them it is, nor the place of
-// a refusal, nor what a run does to registers, place and memory: that these are right is tested by comparison.
+// A run of at most budget steps: refused by a rule of 1 to 7, 14 or 15, or with its ending. The contract does not settle
+// which of them it is, nor the place of a refusal, nor what a run does to registers, place and memory: that these are right is tested by comparison.
 pub fn run(
     file: &[u8],
     registers: [u32; 8],
@@ -134,30 +65,32 @@ pub fn run(
 ) -> Ran
     ensures { RunSaid registers place budget memory.old memory.new result }
 {
-    let shape = shape_of(file);
-    if shape.number != 0 {
-        return unrun(registers, place, shape.number, shape.place);
+    match ready(file, place, memory.len(), offset) {
+        Ok((module, end)) => {
+            Machine::at(registers, place).run(&module, &mut memory[offset..end], budget)
+        }
+        Err(refusal) => Ran {
+            registers,
+            place,
+            steps: 0,
+            outcome: Err(refusal),
+        },
     }
-    let mut code = [0u32; 32768];
-    let mut claims = [0u32; 4096];
-    let loaded = load(file, shape.n, shape.k, false, &mut code, &mut claims);
-    if loaded.number != 0 {
-        return unrun(registers, place, loaded.number, loaded.place);
-    }
-    let layout = shape.layout;
-    start(
-        &code, layout, shape.n, registers, place, memory, offset, budget,
-    )
 }
 
-fn unwritten(number: u32, place: usize) -> Written
-    ensures { UnwrittenAs number place result }
+// The module, and where its region ends in a memory of so many bytes: of the length alone, since the bytes are lent to the run.
+fn ready(file: &[u8], place: u16, length: usize, offset: usize) -> Result<(Module, usize), Refusal>
+    ensures { MatchResult result (λ m. (offset ≤ m.1) × (m.1 ≤ length)) (λ e. RunRule e.rule) }
 {
-    Written {
-        refused: true,
-        first: number,
-        second: low(place),
+    let module = Module::read(file, false)?;
+    if module.shape.n <= usize::from(place) {
+        return Err(Refusal::at(Rule::BadPlace, 0));
     }
+    let size = module.shape.layout.size as usize;
+    if length < offset || length - offset < size {
+        return Err(Refusal::at(Rule::NoGround, 0));
+    }
+    Ok((module, offset + size))
 }
 
 // Writes the module file of tables: ticket 5 of document 02. A row of instructions is op, a, b, w and imm; a row of doors
@@ -165,27 +98,18 @@ fn unwritten(number: u32, place: usize) -> Written
 // The contract does not settle which answer it is, nor which bytes are written: that both are right is tested by
 // comparison.
 pub fn write(
-    base: u32,
-    size: u32,
-    guard: u32,
+    layout: Layout,
     instructions: &[[u32; 5]],
     doors: &[[u32; 18]],
     buffer: &mut [u8],
-) -> Written
+) -> Result<u32, Refusal>
     ensures { WriteSaid (length instructions.now) (length doors.now) buffer.old buffer.new result }
 {
-    let found = judge_tables(base, size, guard, instructions, doors);
-    if found.number != 0 {
-        return unwritten(found.number, found.place);
-    }
-    let length = file_length(instructions.len(), doors.len());
+    let tables = Tables::judged(layout, instructions, doors)?;
+    let length = tables.length();
     if buffer.len() < length {
-        return unwritten(16, 0);
+        return Err(Refusal::at(Rule::NoSpace, 0));
     }
-    fill(base, size, guard, instructions, doors, buffer, length);
-    Written {
-        refused: false,
-        first: low(length),
-        second: 0,
-    }
+    tables.fill(&mut buffer[..length]);
+    Ok(length as u32)
 }

@@ -1,121 +1,125 @@
-// The claims that are worked out, laid out as `load` has them, and beside them the doors' growth: 24 entries for each
-// door. The first says whether it is reached; those from 8 up in how many sweeps each register has grown, and those
-// from 16 up in which sweep it last grew. After all doors comes the last sweep that changed anything. Sweeps count
-// from 1.
-use super::know::{Change, Span, least, most};
-use super::load::door_at;
-use super::machine::store;
-use super::read::{enter, entry, wide};
-use super::rules::{changed, claimed};
+// The claims that are worked out, and beside them the doors' growth. Sweeps count from 1.
+use super::know::{Known, Span};
 
-const REACHED: usize = 0;
-
-const TIMES: usize = 8;
-
-const LATEST: usize = 16;
-
-const CHANGED: usize = 6144;
-
-pub(crate) const GROWTH: usize = 6145;
-
-fn slot(door: u32, part: usize, r: u32) -> usize {
-    wide(door) * 24 + part % 24 + wide(r)
+// In how many sweeps a register has grown, and in which one last.
+#[derive(Clone, Copy)]
+struct Growth {
+    times: u32,
+    latest: u32,
 }
 
-pub(crate) fn is_reached(growth: &[u32], door: u32) -> bool {
-    entry(growth, slot(door, REACHED, 0)) != 0
-}
-
-pub(crate) fn reach(growth: &mut [u32], door: u32) {
-    enter(growth, slot(door, REACHED, 0), 1);
-}
-
-pub(crate) fn has_changed(growth: &[u32], sweep: u32) -> bool {
-    entry(growth, CHANGED) == sweep
-}
-
-fn set_claim(claims: &mut [u32], door: u32, r: u32, lo: u32, hi: u32) {
-    let i = wide(door) * 16 + wide(r) * 2;
-    enter(claims, i, lo);
-    enter(claims, i + 1, hi);
-}
-
-// In how many sweeps a register has grown, with this one, which counts once.
-fn times(growth: &mut [u32], door: u32, r: u32, sweep: u32) -> u32 {
-    let before = entry(growth, slot(door, TIMES, r));
-    if entry(growth, slot(door, LATEST, r)) == sweep {
-        return before;
-    }
-    let all = std::num::wrapping_add_u32(before, 1);
-    enter(growth, slot(door, TIMES, r), all);
-    enter(growth, slot(door, LATEST, r), sweep);
-    all
-}
-
-// A register of a reached door: the smallest range that covers both its claim and x, or anything if it has grown in
-// eight sweeps before this one.
-fn grow(claims: &mut [u32], growth: &mut [u32], door: u32, r: u32, sweep: u32, x: Span) {
-    let y = claimed(claims, door, r);
-    if y.lo <= x.lo && x.hi <= y.hi {
-        return;
-    }
-    enter(growth, CHANGED, sweep);
-    if 8 < times(growth, door, r, sweep) {
-        set_claim(claims, door, r, 0, 4294967295);
-    } else {
-        set_claim(claims, door, r, least(x.lo, y.lo), most(x.hi, y.hi));
+impl Growth {
+    // The growth with one in a sweep, which counts once.
+    fn with(self, sweep: u32) -> Growth {
+        if self.latest == sweep {
+            self
+        } else {
+            Growth {
+                times: self.times.wrapping_add(1),
+                latest: sweep,
+            }
+        }
     }
 }
 
-// The first reaching of a door is no growth.
-fn widen_register(claims: &mut [u32], growth: &mut [u32], door: u32, r: u32, sweep: u32, x: Span) {
-    if is_reached(growth, door) {
-        grow(claims, growth, door, r, sweep, x);
-    } else {
-        set_claim(claims, door, r, x.lo, x.hi);
+// A door's claim as it stands, none while the door is unreached, and the growth of r0 to r7.
+#[derive(Clone, Copy)]
+struct Claim {
+    known: Option<Known>,
+    growth: [Growth; 8],
+}
+
+impl Claim {
+    const UNREACHED: Claim = Claim {
+        known: None,
+        growth: [Growth {
+            times: 0,
+            latest: 0,
+        }; 8],
+    };
+
+    // A register of a reached door: the smallest range that covers both its claim and x, or anything if it has grown in
+    // eight sweeps before this one. The answer is whether it has changed.
+    fn grow(&mut self, claim: &mut Known, r: usize, x: Span, sweep: u32) -> bool {
+        let y = claim.of(r);
+        if x.lies_in(y) {
+            return false;
+        }
+        let growth = self.growth[r % 8].with(sweep);
+        self.growth[r % 8] = growth;
+        let grown = if 8 < growth.times {
+            Span::ANYTHING
+        } else {
+            x.joined(y)
+        };
+        *claim = claim.with(r, grown);
+        true
+    }
+
+    // The claim covers what is known. The first reaching of a door is no growth, and a change.
+    fn widen(&mut self, known: &Known, sweep: u32) -> bool {
+        let Some(mut claim) = self.known else {
+            self.known = Some(*known);
+            return true;
+        };
+        let mut changed = false;
+        for r in 0..8 {
+            changed |= self.grow(&mut claim, r, known.of(r), sweep);
+        }
+        self.known = Some(claim);
+        changed
     }
 }
 
-fn widen_registers(
-    claims: &mut [u32],
-    growth: &mut [u32],
-    door: u32,
+// The doors by number, the sweep that is being made, and the last one that changed anything.
+#[derive(Clone, Copy)]
+pub(crate) struct Work {
+    doors: [Claim; 256],
     sweep: u32,
-    lo: &[u32; 8],
-    hi: &[u32; 8],
-    c: Change,
-) {
-    let mut r = 0u32;
-    while r < 8 {
-        widen_register(claims, growth, door, r, sweep, changed(lo, hi, c, r));
-        r += 1;
-    }
+    changed: u32,
 }
 
-// An inner door's claim covers what is known after the change.
-pub(crate) fn widen(
-    claims: &mut [u32],
-    growth: &mut [u32],
-    door: u32,
-    sweep: u32,
-    lo: &[u32; 8],
-    hi: &[u32; 8],
-    c: Change,
-) {
-    widen_registers(claims, growth, door, sweep, lo, hi, c);
-    if !is_reached(growth, door) {
-        reach(growth, door);
-        enter(growth, CHANGED, sweep);
+impl Work {
+    // Claims that are anything, of doors that are all unreached but the open ones.
+    pub(crate) fn new() -> Work {
+        Work {
+            doors: [Claim::UNREACHED; 256],
+            sweep: 0,
+            changed: 0,
+        }
     }
-}
 
-// The claims over those in the file; those of open doors are what they were.
-pub(crate) fn write_claims(file: &mut [u8], n: usize, k: usize, claims: &[u32]) {
-    let all = k % 4096 * 16;
-    let mut t = 0;
-    while t < all {
-        let to = door_at(n, t / 16) + 4 + t % 16 * 4;
-        store(file, to, 4, entry(claims, t));
-        t += 1;
+    pub(crate) fn begin(&mut self, sweep: u32) {
+        self.sweep = sweep;
+    }
+
+    // Whether this sweep has changed anything.
+    pub(crate) fn has_changed(&self) -> bool {
+        self.changed == self.sweep
+    }
+
+    pub(crate) fn claim(&self, door: u8) -> Known {
+        self.doors[usize::from(door)]
+            .known
+            .unwrap_or(Known::ANYTHING)
+    }
+
+    pub(crate) fn is_reached(&self, door: u8) -> bool {
+        self.doors[usize::from(door)].known.is_some()
+    }
+
+    pub(crate) fn reach(&mut self, door: u8) {
+        self.doors[usize::from(door)].known = Some(Known::ANYTHING);
+    }
+
+    // An inner door's claim covers what is known.
+    pub(crate) fn widen(&mut self, door: u8, known: &Known) {
+        if self.doors[usize::from(door)].widen(known, self.sweep) {
+            self.changed = self.sweep;
+        }
+    }
+
+    pub(crate) fn claims(&self) -> [Known; 256] {
+        self.doors.map(|door| door.known.unwrap_or(Known::ANYTHING))
     }
 }

@@ -4,7 +4,7 @@ use Prim.Native.Nat.{ℕ, zero, suc, ◌+◌, ◌<◌}
 use mathlib.Core.Path.{◌≡◌, refl, ap}
 use mathlib.Core.Bool.{Bool, true, true≢false, false≢true}
 use mathlib.Core.List.{List}
-use mathlib.Core.Option.{Option, none, some}
+use Rattle.std.specs.Prelude.{Option, None, Some}
 use native.Mathlib.Omega.{arith}
 use native.Mathlib.Numerals.{add-one}
 use lib.ListN.{length, get_or-replicate}
@@ -33,18 +33,18 @@ pub record Invariant (p : Program) (m : Machine) : Type 0 where
   pub words : EightWords m.registers
   pub within : Within (known_at p m.pc) m.registers
   -- a jump through a register comes only after its check
-  pub checked : (a : ℕ) → (traits_at p m.pc).goes_by ≡ some a → is_indirect p.targets (reg m.registers a) ≡ true
+  pub checked : (a : ℕ) → (traits_at p m.pc).goes_by ≡ Some a → is_indirect p.targets (reg m.registers a) ≡ true
 
 -- what acceptance says of a file's module
 pub record Accepted (file : List ℕ) : Type 0 where
   pub file_rules : FileKept file
   pub layout : LayoutKept (program_in file).layout
   pub sound : (i : ℕ) → Sound (program_in file).layout (shape_at (program_in file) i)
-  pub target : (i : ℕ) (t : Target) → target_at (program_in file).targets i ≡ some t → TargetFacts (length (program_in file).code) i t
+  pub target : (i : ℕ) (t : Target) → target_at (program_in file).targets i ≡ Some t → TargetFacts (length (program_in file).code) i t
   pub rules : (i : ℕ) → i < length (program_in file).code → IndexKept (program_in file) i
 
 -- an accepted file of bytes is such a file
-pub accepted_file : (file : List ℕ) → ((i : ℕ) → byte_at file i < 256) → first_broken file ≡ none → Accepted file
+pub accepted_file : (file : List ℕ) → ((i : ℕ) → byte_at file i < 256) → first_broken file ≡ None → Accepted file
 unfolding program_of
 accepted_file file bytes passes =
     let kept : KeepsEveryRule file = (accepted_iff file).0 passes in
@@ -59,7 +59,7 @@ accepted_file file bytes passes =
 -- ---- what is known at a target
 
 -- at a target its claim is what is known
-known_at_target : (p : Program) (i : ℕ) (t : Target) → target_at p.targets i ≡ some t → known_at p i ≡ t.claim
+known_at_target : (p : Program) (i : ℕ) (t : Target) → target_at p.targets i ≡ Some t → known_at p i ≡ t.claim
 unfolding known_at
 known_at_target p zero t lookup = ap (claim_or starting_ranges) lookup
 known_at_target p (suc i) t lookup = ap (claim_or (after_next (region_range p.layout) (shape_at p i) (known_at p i))) lookup
@@ -74,16 +74,16 @@ claim_kept {p} {m} invariant = record {
 
 -- a test of what is looked up is passed only where something is there
 passed_by : (test : Target → Bool) (found : Option Target) → any_of found test ≡ true
-    → (t : Target) × (found ≡ some t) × (test t ≡ true)
-passed_by test none passed = absurd (false≢true passed)
-passed_by test (some t) passed = (t, refl, passed)
+    → (t : Target) × (found ≡ Some t) × (test t ≡ true)
+passed_by test None passed = absurd (false≢true passed)
+passed_by test (Some t) passed = (t, refl, passed)
 
 module _ {file : List ℕ} (accepted : Accepted file) where
   abbrev p : Program
   p = program_in file
 
   -- registers within ranges that lie within a target's claim are within the claim
-  within_claim : {k : Ranges} {rs : List ℕ} (to : ℕ) (t : Target) → target_at p.targets to ≡ some t → LiesWithin k t.claim
+  within_claim : {k : Ranges} {rs : List ℕ} (to : ℕ) (t : Target) → target_at p.targets to ≡ Some t → LiesWithin k t.claim
       → Within k rs → Within t.claim rs
   within_claim to t lookup lies within =
       let facts : TargetFacts (length p.code) to t = accepted.target to t lookup in
@@ -95,7 +95,7 @@ module _ {file : List ℕ} (accepted : Accepted file) where
       }
 
   -- arriving at a target with registers within its claim
-  pub at_target : (to : ℕ) (t : Target) (rs : List ℕ) → target_at p.targets to ≡ some t → EightWords rs → Within t.claim rs
+  pub at_target : (to : ℕ) (t : Target) (rs : List ℕ) → target_at p.targets to ≡ Some t → EightWords rs → Within t.claim rs
       → Invariant p (record { registers = rs; pc = to })
   at_target to t rs lookup words within = record {
     inside = inside;
@@ -160,6 +160,6 @@ module _ {file : List ℕ} (accepted : Accepted file) where
 
         claim_or_after : (found : Option Target) → target_at p.targets (suc i) ≡ found
             → Within (claim_or (after_next (region_range p.layout) (shape_at p i) (known_at p i)) found) rs
-        claim_or_after none lookup = next.within
-        claim_or_after (some t) lookup =
+        claim_or_after None lookup = next.within
+        claim_or_after (Some t) lookup =
             within_claim (suc i) t lookup (rules_at_pc.next next.falls t (rw (add-one i) lookup)) next.within

@@ -7,7 +7,7 @@ use mathlib.Core.Bool.{Bool, true, ◌&&◌}
 use mathlib.Core.Logic.{⊎_elim}
 use mathlib.Core.List.Memᴰ
 use mathlib.Core.List.{List, [], ◌∷◌}
-use mathlib.Core.Option.{none}
+use Rattle.std.specs.Prelude.{None}
 use native.Mathlib.Omega.{arith}
 use lib.Dec.{ltb}
 use lib.ListN.{get_or, replicate, length-replicate}
@@ -31,7 +31,7 @@ pub loop_judged : LoopJudged
 unfolding loop verdict
 loop_judged = record { verdicts = refl }
 
-loop_accepted : first_broken loop ≡ none
+loop_accepted : first_broken loop ≡ None
 unfolding loop verdict
 loop_accepted = refl
 

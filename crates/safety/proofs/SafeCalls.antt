@@ -6,7 +6,7 @@ use mathlib.Core.Path.{◌≡◌, refl, ap, ◌∙◌}
 use mathlib.Core.Logic.{inl, inr}
 use mathlib.Core.List.Memᴰ
 use mathlib.Core.List.{List, Memᴰ}
-use mathlib.Core.Option.{some}
+use Rattle.std.specs.Prelude.{Some}
 use native.Mathlib.Omega.{arith}
 use native.Mathlib.Decide.{dec_lt, dec_le}
 use lib.ListN.{length, get_or}
@@ -56,7 +56,7 @@ size_in file = refl
 
 -- the refusal of a run that only lacks its region
 no_room : (file : List ℕ) (m : Machine) (memory : List ℕ) (offset : ℕ) → FileKept file → m.pc < instruction_count (code_in file)
-    → length memory < offset + (layout_in file).size → first_fault (runnable file m memory offset) ≡ some (fault 15 0)
+    → length memory < offset + (layout_in file).size → first_fault (runnable file m memory offset) ≡ Some (fault 15 0)
 unfolding runnable first_fault
 no_room file m memory offset kept inside short =
     append_faultless (readable file) _ ((readable_iff file).1 kept)

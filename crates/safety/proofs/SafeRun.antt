@@ -5,7 +5,7 @@ use mathlib.Core.Path.{◌≡◌, sym, ap, subst}
 use mathlib.Core.Logic.{⊎_elim}
 use mathlib.Core.List.Memᴰ
 use mathlib.Core.List.{List, Memᴰ}
-use mathlib.Core.Option.{Option, none, some}
+use Rattle.std.specs.Prelude.{Option, None, Some}
 use native.Mathlib.Omega.{arith}
 use Rattle.model.specs.declared.Ending.{Ending}
 use Rattle.model.specs.declared.Ending.TheVariants.{Violated, OutOfBudget}
@@ -25,19 +25,19 @@ pub record RunKept (p : Program) (r : Run) : Type 0 where
   pub steps : (s : Step) → Memᴰ s r.log → StepKept p s
   pub unviolated : r.ending ≡ Violated → ⊥
 
-followed_kept : (p : Program) (s : Step) (rest : Run) (ending : Option Ending) → (ending ≡ some Violated → ⊥) → StepKept p s
+followed_kept : (p : Program) (s : Step) (rest : Run) (ending : Option Ending) → (ending ≡ Some Violated → ⊥) → StepKept p s
     → RunKept p rest → RunKept p (followed s rest ending)
-followed_kept p s rest none not-violated first others = record {
+followed_kept p s rest None not-violated first others = record {
   invariant = others.invariant;
   bytes = others.bytes;
   steps = λ made logged. ⊎_elim (λ is. subst (StepKept p) (sym is) first) (others.steps made) (Memᴰ.cases_cons logged);
   unviolated = others.unviolated;
 }
-followed_kept p s rest (some e) not-violated first others = record {
+followed_kept p s rest (Some e) not-violated first others = record {
   invariant = first.invariant;
   bytes = first.bytes;
   steps = λ made logged. subst (StepKept p) (sym (Memᴰ.eq_of_singleton logged)) first;
-  unviolated = λ violated. not-violated (ap some violated);
+  unviolated = λ violated. not-violated (ap Some violated);
 }
 
 -- a run whose budget is used did not stray

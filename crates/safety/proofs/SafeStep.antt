@@ -5,7 +5,8 @@ use mathlib.Core.Path.{◌≡◌, refl, sym, ◌∙◌}
 use mathlib.Core.Bool.{true, true≢false}
 use mathlib.Core.List.Memᴰ
 use mathlib.Core.List.{List, Memᴰ}
-use mathlib.Core.Option.{none, some, some-injective}
+use Rattle.std.specs.Prelude.{None, Some}
+use Rattle.std.proofs.lemmas.Option.{same_Some}
 use native.Mathlib.Omega.{arith}
 use lib.Dec.{ltb}
 use lib.ListN.{length}
@@ -40,8 +41,8 @@ abbrev AllInZones : Layout → List ℕ → Type 0
 AllInZones l reached = (at : ℕ) → Memᴰ at reached → InZones l at
 
 module _ {l : Layout} (kept : LayoutKept l) {k : Ranges} {rs : List ℕ} (within : Within k rs) where
-  access_reaches : (s : Shape) (a : ℕ) (ac : Access) → SoundAccess a ac → AccessAllowed l s k → (traits s).access ≡ some ac
-      → AllInZones l (reaches (some ac) rs)
+  access_reaches : (s : Shape) (a : ℕ) (ac : Access) → SoundAccess a ac → AccessAllowed l s k → (traits s).access ≡ Some ac
+      → AllInZones l (reaches (Some ac) rs)
   access_reaches s a ac sound allowed has =
       reached_in_zones (contained_in_zones kept within sound.pointer sound.displacement (allowed ac has))
 
@@ -60,7 +61,7 @@ module _ {l : Layout} (kept : LayoutKept l) {k : Ranges} {rs : List ℕ} (within
 -- ---- the step
 
 -- a step that goes on has no ending
-not_ended : none ≡ some Violated → ⊥
+not_ended : None ≡ Some Violated → ⊥
 not_ended same = let impossible : ◌≡◌ {A = ℕ} 0 1 = cc in omega arith
 
 module _ {file : List ℕ} (accepted : Accepted file) {m : Machine} {bs : List ℕ} (invariant : Invariant (program_in file) m)
@@ -118,7 +119,7 @@ module _ {file : List ℕ} (accepted : Accepted file) {m : Machine} {bs : List �
         reached = in-zones;
         landing = tt;
         claim = claim_kept invariant;
-        inside = λ violated. true≢false (rw (some-injective e Violated violated) at (ending allowed));
+        inside = λ violated. true≢false (rw (same_Some e Violated violated) at (ending allowed));
       };
     }
 

@@ -3,7 +3,7 @@ use Prim.Native.Nat.{ℕ}
 use mathlib.Core.Path.{◌≡◌, refl}
 use mathlib.Core.Bool.{true}
 use mathlib.Core.List.{List}
-use mathlib.Core.Option.{none}
+use Rattle.std.specs.Prelude.{None}
 use lib.IntN.{ℤ}
 use Rattle.model.specs.declared.Instruction.{Instruction}
 use Rattle.model.specs.declared.Instruction.TheVariants.{Halt, Set, Copy, Add, Addi, Sub, Andi, Guard, Shr, Sar, Load, Store, Jump, Branch, Check, Jumpr}
@@ -52,26 +52,26 @@ others_fall x no_halt no_jump no_jumpr =
 
 -- but a load and a store makes no access
 pub others_access_nothing : (x : Instruction) → ((a b : ℕ) (v : LoadWidth) (imm : ℤ) → x ≡ Load a b v imm → ⊥)
-    → ((a b : ℕ) (w : Width) (imm : ℤ) → x ≡ Store a b w imm → ⊥) → (traits (shape x)).access ≡ none
+    → ((a b : ℕ) (w : Width) (imm : ℤ) → x ≡ Store a b w imm → ⊥) → (traits (shape x)).access ≡ None
 others_access_nothing x no_load no_store =
-    by_kind (λ s. (traits s).access ≡ none) x (λ e. refl) (λ a v r. refl) (λ a b v imm e. absurd (no_load a b v imm e))
+    by_kind (λ s. (traits s).access ≡ None) x (λ e. refl) (λ a v r. refl) (λ a b v imm e. absurd (no_load a b v imm e))
     (λ a b w imm e. absurd (no_store a b w imm e)) (λ to e. refl) (λ a b t to e. refl) (λ a e. refl) (λ a e. refl)
 
 -- but a jump and a branch names no index
 pub others_name_nothing : (x : Instruction) → ((to : ℕ) → x ≡ Jump to → ⊥)
-    → ((a b : ℕ) (test : Test) (to : ℕ) → x ≡ Branch a b test to → ⊥) → (traits (shape x)).names ≡ none
+    → ((a b : ℕ) (test : Test) (to : ℕ) → x ≡ Branch a b test to → ⊥) → (traits (shape x)).names ≡ None
 others_name_nothing x no_jump no_branch =
-    by_kind (λ s. (traits s).names ≡ none) x (λ e. refl) (λ a v r. refl) (λ a b v imm e. refl) (λ a b w imm e. refl)
+    by_kind (λ s. (traits s).names ≡ None) x (λ e. refl) (λ a v r. refl) (λ a b v imm e. refl) (λ a b w imm e. refl)
     (λ to e. absurd (no_jump to e)) (λ a b t to e. absurd (no_branch a b t to e)) (λ a e. refl) (λ a e. refl)
 
 -- but a check looks at no register
-pub others_look_at_nothing : (x : Instruction) → ((a : ℕ) → x ≡ Check a → ⊥) → (traits (shape x)).looks_at ≡ none
+pub others_look_at_nothing : (x : Instruction) → ((a : ℕ) → x ≡ Check a → ⊥) → (traits (shape x)).looks_at ≡ None
 others_look_at_nothing x no_check =
-    by_kind (λ s. (traits s).looks_at ≡ none) x (λ e. refl) (λ a v r. refl) (λ a b v imm e. refl) (λ a b w imm e. refl)
+    by_kind (λ s. (traits s).looks_at ≡ None) x (λ e. refl) (λ a v r. refl) (λ a b v imm e. refl) (λ a b w imm e. refl)
     (λ to e. refl) (λ a b t to e. refl) (λ a e. absurd (no_check a e)) (λ a e. refl)
 
 -- but a jumpr goes by no register
-pub others_go_by_nothing : (x : Instruction) → ((a : ℕ) → x ≡ Jumpr a → ⊥) → (traits (shape x)).goes_by ≡ none
+pub others_go_by_nothing : (x : Instruction) → ((a : ℕ) → x ≡ Jumpr a → ⊥) → (traits (shape x)).goes_by ≡ None
 others_go_by_nothing x no_jumpr =
-    by_kind (λ s. (traits s).goes_by ≡ none) x (λ e. refl) (λ a v r. refl) (λ a b v imm e. refl) (λ a b w imm e. refl)
+    by_kind (λ s. (traits s).goes_by ≡ None) x (λ e. refl) (λ a v r. refl) (λ a b v imm e. refl) (λ a b w imm e. refl)
     (λ to e. refl) (λ a b t to e. refl) (λ a e. refl) (λ a e. absurd (no_jumpr a e))

@@ -1,169 +1,146 @@
--- Each rule at an index, from what the code is given there and what its calls answer. Assumes nothing.
+-- Each rule at an index, from what stands there and what its calls answer. Assumes nothing.
 use Prim.Native.Nat.{ℕ, zero, suc, ◌+◌, ◌-◌}
 use mathlib.Core.Path.{◌≡◌, refl, sym, ap, ap₂, ◌∙◌}
 use mathlib.Core.Bool.{Bool, true, false, not, ◌&&◌, ◌||◌}
 use mathlib.Core.List.{List}
-use mathlib.Core.Option.{Option, none, some}
+use Rattle.std.specs.Prelude.{Option, None, Some, is_some, MatchOption, IsTrue}
+use Rattle.std.proofs.Props.{props}
+use Rattle.std.proofs.Math.Logic.{∥∥₁_elim}
 use native.Mathlib.Omega.{arith}
 use lib.Dec.{eqb}
-use lib.IntN.{ℤ}
-use lib.ListN.{length}
-use mir.Syntax.{w32}
-use mir.Val.{of_z, to_z}
-use mir.ValLaws.{to_z-of_z}
 use Rattle.model.specs.declared.Instruction.{Instruction}
-use Rattle.model.specs.declared.Instruction.TheVariants.{Jumpr}
 use Rattle.model.specs.declared.Layout.{Layout}
-use Rattle.model.specs.declared.Range.{Range}
 use Rattle.model.specs.declared.Ranges.{Ranges}
 use Rattle.model.specs.declared.Target.{Target}
-use Rattle.model.specs.declared.Width.{Width}
 use Rattle.model.specs.Quantifiers.{all_of, any_of}
 use Rattle.model.specs.Ranges.{range_of, lies_within}
 use Rattle.model.specs.Program.{Program, code_at, target_at, is_target}
 use Rattle.model.specs.Instructions.{shape, traits, after_taken}
 use Rattle.model.specs.File.{claim_in, target_in, program_of}
-use Rattle.model.specs.Judgement.{traits_at, known_at, next_ranges, taken_ranges, checked_before, is_reachable, is_checked, is_contained, access_contained, jumps_to_target, stays_inside, taken_kept, next_kept}
-use Rattle.model.proofs.RuleW.{Signed32}
-use Rattle.reader.specs.declared.lookup.Lookup.{Lookup}
-use Rattle.reader.specs.declared.lookup.Lookup.TheVariants.{At, Nowhere}
+use Rattle.model.specs.Judgement.{traits_at, next_ranges, taken_ranges, checked_before, is_reachable, is_checked, is_contained, access_contained, jumps_to_target, stays_inside, taken_kept, next_kept}
+use Rattle.reader.specs.Decoding.{Fetches}
+use Rattle.reader.specs.Loading.{Loaded}
 use Rattle.reader.specs.Lookups.{FindsNamed, target_found}
-use Rattle.reader.specs.Readings.{Loaded}
+use Rattle.reader.proofs.Fetching.{fetched, program_count}
 use Rattle.reader.proofs.Searches.{found_target}
 use Rattle.verifier.specs.Standing.{arrives_at, target_named}
+use Rattle.reader.specs.Readings.{program}
+use Rattle.verifier.specs.declared.rules.Place.{Place}
 
 -- what is found at a named index is the module's target there
-pub named_target : {l : Layout} {code targets : List ℕ} {n k : ℕ} → Loaded l code targets n k → (to : Option ℕ) (found : Lookup)
+named_target : {l : Layout} {code targets : List ℕ} {n k : ℕ} → Loaded l code targets n k → (to found : Option ℕ)
     → FindsNamed targets k to found → target_found targets found ≡ target_named (program_of l code targets).targets to
 unfolding target_found
-named_target loaded none found is = rw is
-named_target loaded (some to) found finds = found_target loaded to found finds
+named_target loaded None found is = rw is
+named_target loaded (Some to) found finds = found_target loaded to found finds
+
+-- where a test is made of what is found, if anything is
+pub kept_or_none : (o : Option ℕ) (f : ℕ → Bool) {result : Bool} {P : ℕ → Type 0} → MatchOption o (IsTrue result) P
+    → ((j : ℕ) → P j → result ≡ f j) → result ≡ all_of o f
+kept_or_none None f holds told = holds
+kept_or_none (Some j) f holds told = told j holds
+
+claims_found : (targets : List ℕ) (k : Ranges) (o : Option ℕ)
+    → all_of o (λ j. lies_within k (claim_in targets j)) ≡ all_of (target_found targets o) (λ t. lies_within k t.claim)
+unfolding target_found target_in
+claims_found targets k None = refl
+claims_found targets k (Some j) = refl
 
 -- 12
-pub reachable_is : (p : Program) (i : ℕ) → (arrives_at p i || is_target p.targets i) ≡ is_reachable p i
+by_place : (p : Program) (i : ℕ) → (arrives_at p i || is_target p.targets i) ≡ is_reachable p i
 unfolding is_reachable
-reachable_is p zero = refl
-reachable_is p (suc i) = refl
+by_place p zero = refl
+by_place p (suc i) = refl
 
--- 9: the instruction before, where there is one
-pub looks_before : (p : Program) (i : ℕ) → (i ≡ 0 → ⊥) → {before : Instruction} → before ≡ code_at p (i - 1)
-    → (traits (shape before)).looks_at ≡ checked_before p i
-looks_before p zero later is-before = absurd (later refl)
-looks_before p (suc i) later is-before = let less : suc i - 1 ≡ i = omega arith in rw (is-before, less)
+either_order : (o : Option ℕ) (t : Bool) (f : ℕ → Bool) → all_of o (λ a. t && f a) ≡ all_of o (λ a. f a && t)
+either_order None t f = refl
+either_order (Some a) t f = swap t (f a)
+  where
+    swap : (t u : Bool) → (t && u) ≡ (u && t)
+    swap true true = refl
+    swap true false = refl
+    swap false true = refl
+    swap false false = refl
 
--- at an index with instruction x, a target or not
-module _ (p : Program) (i : ℕ) {x : Instruction} {marked : Bool} (is_x : x ≡ code_at p i) (is-marked : marked ≡ is_target p.targets i) where
-  checked_is : all_of (traits (shape x)).goes_by (λ a. any_of (checked_before p i) (eqb a) && not marked) ≡ is_checked p i
-  unfolding is_checked
-  checked_is = rw (is_x, is-marked)
+module _ (at : Place) where
+  pub reachable_is : {before : Bool} → at.arrives ≡ before → (before || at.marked) ≡ is_reachable (program at.within.now) at.i
+  reachable_is is = rw (← is, at.standing.is_arrives, at.standing.is-marked) (by_place (program at.within.now) at.i)
 
-  pub no_jumpr : (traits (shape x)).goes_by ≡ none → true ≡ is_checked p i
-  no_jumpr plain = rw plain at checked_is
-
-  module _ {a : ℕ} (is-jumpr : x ≡ Jumpr a) where
-    jumpr_is : (any_of (checked_before p i) (eqb a) && not marked) ≡ is_checked p i
-    unfolding shape
-    jumpr_is = rw is-jumpr at checked_is
-
-    pub jumpr_at_target : marked ≡ true → false ≡ is_checked p i
-    jumpr_at_target here = fails (any_of (checked_before p i) (eqb a)) ∙ (rw here at jumpr_is)
-      where
-        fails : (t : Bool) → false ≡ (t && false)
-        fails true = refl
-        fails false = refl
-
-    pub jumpr_elsewhere : marked ≡ false → {before : Bool} → before ≡ any_of (checked_before p i) (eqb a) → before ≡ is_checked p i
-    jumpr_elsewhere elsewhere is-before = is-before ∙ passes _ ∙ (rw elsewhere at jumpr_is)
-      where
-        passes : (t : Bool) → t ≡ (t && true)
-        passes true = refl
-        passes false = refl
-
--- 10
-module _ (p : Program) (i : ℕ) {l : Layout} {x : Instruction} {k : Ranges} (is-l : l ≡ p.layout) (is_x : x ≡ code_at p i) (is-k : k ≡ known_at p i) where
-  contained_is : all_of (traits (shape x)).access (λ ac. is_contained l (range_of k ac.pointer) ac.width ac.displacement) ≡ access_contained p i
-  unfolding access_contained
-  contained_is = rw (is-l, is_x, is-k)
-
-  pub no_access : (traits (shape x)).access ≡ none → true ≡ access_contained p i
-  no_access plain = rw plain at contained_is
-
-  -- by the displacement that the bits of z are
-  pub access_tested : (b : ℕ) (w : Width) (z : ℤ) → Signed32 z
-      → (traits (shape x)).access ≡ some (record { pointer = b; width = w; displacement = z })
-      → (y : Range) → y ≡ range_of k b → {inside : Bool} → inside ≡ is_contained l y w (to_z w32 (of_z w32 z)) → inside ≡ access_contained p i
-  access_tested b w z small accesses y is_y tested =
-      tested
-      ∙ ap₂ (λ (r : Range) (n : ℤ). is_contained l r w n) is_y (to_z-of_z w32 z (record { sfits = small }))
-      ∙ (rw accesses at contained_is)
-
--- 8 and 11 on the edge taken: the target that is named, as it was found
-module _ (p : Program) (i : ℕ) {x : Instruction} (is_x : x ≡ code_at p i) (targets : List ℕ) (named : Lookup)
-    (is-named : target_found targets named ≡ target_named p.targets (traits_at p i).names) where
-  jumps_is : (names : Option ℕ) → (traits_at p i).names ≡ names → all_of names (is_target p.targets) ≡ jumps_to_target p i
-  unfolding jumps_to_target
-  jumps_is names is = rw is
-
-  pub no_jump : (traits (shape x)).names ≡ none → true ≡ jumps_to_target p i
-  no_jump plain = jumps_is none (rw is_x at plain)
-
-  module _ {found : Bool} (is_found : found ≡ any_of (target_found targets named) (λ t. true)) where
-    found_is : found ≡ any_of (target_named p.targets (traits_at p i).names) (λ t. true)
-    found_is = is_found ∙ ap (λ (o : Option Target). any_of o (λ t. true)) is-named
-
-    pub jump_to_target : found ≡ true → true ≡ jumps_to_target p i
-    jump_to_target passed = by_name (traits_at p i).names refl (sym passed ∙ found_is)
-      where
-        by_name : (names : Option ℕ) → (traits_at p i).names ≡ names → true ≡ any_of (target_named p.targets names) (λ t. true)
-            → true ≡ jumps_to_target p i
-        by_name none is there = jumps_is none is
-        by_name (some to) is there = there ∙ jumps_is (some to) is
-
-    pub jump_astray : {to : ℕ} → (traits (shape x)).names ≡ some to → found ≡ false → false ≡ jumps_to_target p i
-    jump_astray {to} names failed =
-        let is : (traits_at p i).names ≡ some to = rw is_x at names in
-        sym failed ∙ found_is ∙ ap (λ (o : Option ℕ). any_of (target_named p.targets o) (λ t. true)) is ∙ jumps_is (some to) is
-
-  taken_is : all_of (target_found targets named) (λ t. lies_within (taken_ranges p i) t.claim) ≡ taken_kept p i
-  unfolding taken_kept
-  taken_is = rw is-named (by_name (traits_at p i).names)
+  -- 9: the instruction before, where there is one
+  pub looks_before : (at.i ≡ 0 → ⊥) → {before : Instruction} → Fetches at.within.now.code.now (at.i - 1) before
+      → (traits (shape before)).looks_at ≡ checked_before (program at.within.now) at.i
+  looks_before later {before} fetches = ∥∥₁_elim at.within.now.loaded (hlevel props) (λ loaded.
+      behind at.i later (fetched loaded (at.i - 1) (omega (arith, at.standing.below, later)) before fetches))
     where
-      by_name : (names : Option ℕ) → all_of (target_named p.targets names) (λ t. lies_within (taken_ranges p i) t.claim)
-          ≡ all_of names (λ to. all_of (target_at p.targets to) (λ t. lies_within (taken_ranges p i) t.claim))
-      by_name none = refl
-      by_name (some to) = refl
+      behind : (i : ℕ) → (i ≡ 0 → ⊥) → before ≡ code_at (program at.within.now) (i - 1)
+          → (traits (shape before)).looks_at ≡ checked_before (program at.within.now) i
+      behind zero later is-before = absurd (later refl)
+      behind (suc i) later is-before = let less : suc i - 1 ≡ i = omega arith in rw (is-before, less)
 
-  pub no_taken_claim : named ≡ Nowhere → true ≡ taken_kept p i
-  unfolding target_found
-  no_taken_claim nowhere = rw nowhere at taken_is
+  -- of each kind of instruction
+  module _ {x : Instruction} (is : at.instruction ≡ x) where
+    same : x ≡ code_at (program at.within.now) at.i
+    same = sym is ∙ at.standing.instruction_is
 
-  pub taken_claim : {k taken : Ranges} → k ≡ known_at p i → taken ≡ after_taken (shape x) k → {j : ℕ} → named ≡ At j → {within : Bool}
-      → within ≡ lies_within taken (claim_in targets j) → within ≡ taken_kept p i
-  unfolding target_found target_in
-  taken_claim is-k is-taken {j} at tested =
-      tested ∙ ap (λ (y : Ranges). lies_within y (claim_in targets j)) (is-taken ∙ rw (is-k, is_x)) ∙ (rw at at taken_is)
+    pub checked_is : all_of (traits (shape x)).goes_by (λ a. not at.marked && any_of (checked_before (program at.within.now) at.i) (eqb a))
+        ≡ is_checked (program at.within.now) at.i
+    unfolding is_checked
+    checked_is = rw (same, at.standing.is-marked) (either_order (traits_at (program at.within.now) at.i).goes_by
+        (not (is_target (program at.within.now).targets at.i)) (λ a. any_of (checked_before (program at.within.now) at.i) (eqb a)))
 
--- 13
-pub inside_is : (p : Program) (i : ℕ) {falls last : Bool} → falls ≡ (traits_at p i).falls → last ≡ eqb (i + 1) (length p.code)
-    → not (falls && last) ≡ stays_inside p i
-unfolding stays_inside
-inside_is p i is_falls is_last = rw (is_falls, is_last)
+    -- 10
+    pub contained_is : all_of (traits (shape x)).access
+        (λ ac. is_contained at.within.now.layout (range_of at.known ac.pointer) ac.width ac.displacement)
+        ≡ access_contained (program at.within.now) at.i
+    unfolding access_contained program_of
+    contained_is = rw (same, at.standing.is_known)
+
+  -- 13
+  pub inside_is : {falls : Bool} → falls ≡ (traits (shape at.instruction)).falls
+      → not (falls && eqb (at.i + 1) at.within.now.held.instructions) ≡ stays_inside (program at.within.now) at.i
+  unfolding stays_inside
+  inside_is is = ∥∥₁_elim at.within.now.loaded (hlevel props) (λ loaded. rw (is, at.standing.instruction_is, program_count loaded))
+
+  -- 8 and 11 on the edge taken, of the target that is named
+  module _ (named : Option ℕ) (finds : FindsNamed at.within.now.targets.now at.within.now.held.targets (traits (shape at.instruction)).names named) where
+    named_is : ∥ target_found at.within.now.targets.now named ≡ target_named (program at.within.now).targets (traits_at (program at.within.now) at.i).names ∥₁
+    named_is = ∥∥₁_elim at.within.now.loaded (hlevel props) (λ loaded.
+        ∣ named_target loaded (traits (shape at.instruction)).names named finds
+        ∙ ap (λ (x : Instruction). target_named (program at.within.now).targets (traits (shape x)).names) at.standing.instruction_is ∣₁)
+
+    pub jumps_is : all_of (traits (shape at.instruction)).names (λ to. is_some named) ≡ jumps_to_target (program at.within.now) at.i
+    unfolding jumps_to_target target_found
+    jumps_is = ∥∥₁_elim named_is (hlevel props) (λ found.
+        ap (λ (x : Instruction). all_of (traits (shape x)).names (λ to. is_some named)) at.standing.instruction_is
+        ∙ by_name (traits_at (program at.within.now) at.i).names (some_found named ∙ ap (λ (o : Option Target). any_of o (λ t. true)) found))
+      where
+        some_found : (o : Option ℕ) → is_some o ≡ any_of (target_found at.within.now.targets.now o) (λ t. true)
+        some_found None = refl
+        some_found (Some j) = refl
+
+        by_name : (names : Option ℕ) → is_some named ≡ any_of (target_named (program at.within.now).targets names) (λ t. true)
+            → all_of names (λ to. is_some named) ≡ all_of names (is_target (program at.within.now).targets)
+        by_name None is = refl
+        by_name (Some to) is = is
+
+    pub taken_is : all_of named (λ j. lies_within (after_taken (shape at.instruction) at.known) (claim_in at.within.now.targets.now j))
+        ≡ taken_kept (program at.within.now) at.i
+    unfolding taken_kept
+    taken_is = ∥∥₁_elim named_is (hlevel props) (λ found.
+        claims_found at.within.now.targets.now _ named
+        ∙ ap₂ (λ (o : Option Target) (k : Ranges). all_of o (λ t. lies_within k t.claim)) found
+        (ap₂ (λ (x : Instruction) (k : Ranges). after_taken (shape x) k) at.standing.instruction_is at.standing.is_known)
+        ∙ by_name (traits_at (program at.within.now) at.i).names)
+      where
+        by_name : (names : Option ℕ) → all_of (target_named (program at.within.now).targets names) (λ t. lies_within (taken_ranges (program at.within.now) at.i) t.claim)
+            ≡ all_of names (λ to. all_of (target_at (program at.within.now).targets to) (λ t. lies_within (taken_ranges (program at.within.now) at.i) t.claim))
+        by_name None = refl
+        by_name (Some to) = refl
 
 -- 11 on the edge to the next index
-module _ (p : Program) (i : ℕ) {falls : Bool} {next : Ranges} (is_falls : falls ≡ (traits_at p i).falls) (is_next : next ≡ next_ranges p i)
-    (targets : List ℕ) (there : Lookup) (is_there : target_found targets there ≡ target_at p.targets (i + 1)) where
-  next_is : (not falls || all_of (target_found targets there) (λ t. lies_within next t.claim)) ≡ next_kept p i
-  unfolding next_kept
-  next_is = rw (is_falls, is_next, is_there)
-
-  pub goes_nowhere : falls ≡ false → true ≡ next_kept p i
-  goes_nowhere stopped = rw stopped at next_is
-
-  module _ (falling : falls ≡ true) where
-    pub no_next_claim : there ≡ Nowhere → true ≡ next_kept p i
-    unfolding target_found
-    no_next_claim nowhere = rw (falling, nowhere) at next_is
-
-    pub next_claim : {j : ℕ} → there ≡ At j → {within : Bool} → within ≡ lies_within next (claim_in targets j) → within ≡ next_kept p i
-    unfolding target_found target_in
-    next_claim at tested = tested ∙ (rw (falling, at) at next_is)
+pub next_is : (p : Program) (i : ℕ) {falls : Bool} {next : Ranges} → falls ≡ (traits_at p i).falls → next ≡ next_ranges p i
+    → (targets : List ℕ) (there : Option ℕ) → target_found targets there ≡ target_at p.targets (i + 1)
+    → (not falls || all_of there (λ j. lies_within next (claim_in targets j))) ≡ next_kept p i
+unfolding next_kept
+next_is p i {falls} {next} is_falls is_next targets there is_there =
+    ap (λ (b : Bool). not falls || b) (claims_found targets next there) ∙ rw (is_falls, is_next, is_there)

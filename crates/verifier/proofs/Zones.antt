@@ -1,7 +1,7 @@
 -- Rule 10 on ends that are kept raised by 2^32: the code's two comparisons are the definition's. Assumes nothing.
 use Prim.Native.Nat.{ℕ, suc, ◌+◌, ◌-◌, ◌%◌, ◌≤◌, ◌<◌}
 use mathlib.Core.Path.{◌≡◌, sym, ap, ap₂, ◌∙◌}
-use mathlib.Core.Bool.{false, ◌&&◌}
+use mathlib.Core.Bool.{◌&&◌}
 use native.Mathlib.Omega.{arith}
 use borrow.Author.Tests.{le-leb, lt-leb, ltb-true, ltb-false}
 use lib.Dec.{leb, ltb}
@@ -20,6 +20,9 @@ use Rattle.model.specs.Judgement.{is_contained}
 use Rattle.model.specs.Rules.{LayoutKept}
 use Rattle.model.proofs.Tests.{by_cond, same_order}
 use Rattle.model.proofs.Values.{some_size}
+use Rattle.reader.specs.declared.module.Module.{Module}
+use Rattle.std.proofs.Props.{props}
+use Rattle.std.proofs.Math.Logic.{∥∥₁_elim}
 use Rattle.verifier.specs.Standing.{wrapped_region}
 
 -- where rule 5 is kept a region has a byte, and its end does not wrap
@@ -57,23 +60,18 @@ pub record Ends (w : Width) (imm : ℤ) (x : Range) (lowest highest last : ℕ) 
   pub is_highest : sub_ℕ highest modulus ≡ pos x.high +ℤ to_z w32 (of_z w32 imm)
   pub is_last : last ≡ bytes_of w - 1
 
-module _ {l : Layout} (kept : LayoutKept l) {w : Width} {imm : ℤ} (fit : SFits w32 imm)
-    {x : Range} {lowest highest last : ℕ} (ends : Ends w imm x lowest highest last) where
-  two_tests : is_contained l x w imm
-      ≡ (leb (modulus + (l.base - l.guard)) lowest && leb (highest + last) (modulus + (l.base + l.size - 1 + l.guard)))
+module _ (m : Module) (x : Range) (w : Width) (imm : ℤ) (fit : SFits w32 imm)
+    {lowest highest last : ℕ} (ends : Ends w imm x lowest highest last) where
+  pub two_tests : (leb (modulus + m.layout.base - m.layout.guard) lowest && leb (highest + last) (modulus + m.layout.base + m.layout.size - 1 + m.layout.guard))
+      ≡ is_contained m.layout x w imm
   unfolding is_contained
-  two_tests =
+  two_tests = ∥∥₁_elim m.loaded (hlevel props) (λ loaded.
+      let l = m.layout in
+      let kept : LayoutKept l = loaded.kept.layout in
       let read_back : to_z w32 (of_z w32 imm) ≡ imm = to_z-of_z w32 imm fit in
       let lowest_is : pos x.low +ℤ imm ≡ sub_ℕ lowest modulus = sym (ends.is_lowest ∙ ap (λ (z : ℤ). pos x.low +ℤ z) read_back) in
       let highest_is : pos x.high +ℤ imm ≡ sub_ℕ highest modulus = sym (ends.is_highest ∙ ap (λ (z : ℤ). pos x.high +ℤ z) read_back) in
-      rw (lowest_is, highest_is, ← ends.is_last)
-      (ap₂ ◌&&◌ (at_least (l.base - l.guard) lowest) (at_most highest last (l.base + l.size - 1 + l.guard)))
-
-  pub too_low : lowest < modulus + l.base - l.guard → false ≡ is_contained l x w imm
-  too_low below = sym (two_tests ∙ rw (lt-leb (modulus + (l.base - l.guard)) lowest (omega (arith, kept.below))))
-
-  pub low_enough : modulus + l.base - l.guard ≤ lowest
-      → leb (highest + last) (modulus + l.base + l.size - 1 + l.guard) ≡ is_contained l x w imm
-  low_enough above =
-      let same-limit : modulus + l.base + l.size - 1 + l.guard ≡ modulus + (l.base + l.size - 1 + l.guard) = omega (arith, some_size kept) in
-      sym (two_tests ∙ rw (le-leb (modulus + (l.base - l.guard)) lowest (omega (arith, kept.below)), same-limit))
+      let first : modulus + l.base - l.guard ≡ modulus + (l.base - l.guard) = omega (arith, kept.below) in
+      let second : modulus + l.base + l.size - 1 + l.guard ≡ modulus + (l.base + l.size - 1 + l.guard) = omega (arith, some_size kept) in
+      rw (lowest_is, highest_is, ← ends.is_last, first, second)
+      (sym (ap₂ ◌&&◌ (at_least (l.base - l.guard) lowest) (at_most highest last (l.base + l.size - 1 + l.guard)))))

@@ -1,6 +1,5 @@
 -- What the verifier is given at an index, in the model's terms. Assumes nothing.
-use Rattle.std.specs.Prelude.{ℕ, zero, suc, ◌<◌, ◌≡◌, Bool, true, List, pos, ◌+ℤ◌}
-use Rattle.std.proofs.Math.Option.{Option, none, some}
+use Rattle.std.specs.Prelude.{ℕ, zero, suc, ◌<◌, ◌≡◌, Bool, true, List, pos, ◌+ℤ◌, Option, None, Some}
 use Rattle.std.proofs.Math.IntN.{sub_ℕ}
 use Rattle.model.specs.declared.Instruction.{Instruction}
 use Rattle.model.specs.declared.Layout.{Layout}
@@ -9,12 +8,10 @@ use Rattle.model.specs.declared.Ranges.{Ranges}
 use Rattle.model.specs.declared.Target.{Target}
 use Rattle.model.specs.Words.{wrap}
 use Rattle.model.specs.Ranges.{range}
-use Rattle.model.specs.Program.{Program, code_at, target_at}
-use Rattle.model.specs.File.{program_of}
+use Rattle.model.specs.Program.{Program, code_at, target_at, is_target}
 use Rattle.model.specs.Judgement.{traits_at, starting_ranges, known_at, next_ranges}
-use Rattle.reader.specs.declared.lookup.Lookup.{Lookup}
-use Rattle.reader.specs.Lookups.{target_found}
-use Rattle.reader.specs.Readings.{Loaded}
+use Rattle.reader.specs.Readings.{program}
+use Rattle.reader.specs.declared.module.Module.{Module}
 
 -- "DB = base to DL = base + size − 1", in machine arithmetic: of a layout that rule 5 refuses the end wraps
 abbrev pub wrapped_region : Layout → Range
@@ -31,17 +28,14 @@ arriving_at p (suc i) = next_ranges p i
 
 -- the target at the index that is named, if any is
 abbrev pub target_named : List Target → Option ℕ → Option Target
-target_named ts none = none
-target_named ts (some to) = target_at ts to
+target_named ts None = None
+target_named ts (Some to) = target_at ts to
 
--- what the rules at an index are given is the module's there: whether the instruction before goes on to it, the target here, the
--- instruction, what is known before it, and whether it goes on
-pub record Standing (l : Layout) (code targets : List ℕ) (n k i : ℕ) (arrives : Bool) (here : Lookup) (x : Instruction) (known : Ranges)
-    (falls : Bool) : Type 0 where
-  pub loaded : Loaded l code targets n k
-  pub below : i < n
-  pub is_arrives : arrives ≡ arrives_at (program_of l code targets) i
-  pub is_here : target_found targets here ≡ target_at (program_of l code targets).targets i
-  pub instruction_is : x ≡ code_at (program_of l code targets) i
-  pub is_known : known ≡ known_at (program_of l code targets) i
-  pub is_falls : falls ≡ (traits_at (program_of l code targets) i).falls
+-- what stands at an index is the module's there: whether the instruction before goes on to it, whether it is a target, the
+-- instruction, and what is known before it
+pub record Standing (m : Module) (i : ℕ) (arrives marked : Bool) (x : Instruction) (known : Ranges) : Type 0 where
+  pub below : i < m.held.instructions
+  pub is_arrives : arrives ≡ arrives_at (program m) i
+  pub is-marked : marked ≡ is_target (program m).targets i
+  pub instruction_is : x ≡ code_at (program m) i
+  pub is_known : known ≡ known_at (program m) i

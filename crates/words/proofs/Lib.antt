@@ -1,4 +1,5 @@
-pub mod Signed
-pub mod Wrapping
+pub mod Bitwise
 pub mod LittleEndian
+pub mod Made
+pub mod Signed
 pub mod Writes

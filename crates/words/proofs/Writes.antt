@@ -1,7 +1,46 @@
--- The bytes of a number, each set by itself, are the number written. Assumes nothing.
-use Rattle.std.proofs.Common.{◌≡◌, ℕ, zero, suc, ◌+◌, ◌/◌, ◌%◌, ◌^◌, List, set, sym, refl, ap, ◌∙◌, add-zero, div-one, arith}
-use native.Mathlib.Nat.{div-div-eq-div-mul, pow-succ'}
-use Rattle.model.specs.Words.{write_bytes}
+-- The low bytes of a number, put in place of those from an offset on, are the number written. Assumes nothing.
+use Rattle.std.proofs.Common.{◌≡◌, ℕ, zero, suc, ◌+◌, ◌-◌, ◌/◌, ◌%◌, ◌^◌, ◌≤◌, List, [], ◌∷◌, ◌++◌, length, set, take, drop, sym, refl, ap, ap₂, ◌∙◌, add-zero, div-one, append_assoc, length-set, arith, w32}
+use Rattle.std.proofs.Math.Seq.{take-suc-set}
+use Rattle.std.proofs.lemmas.List.{take-append-drop, drop-set-lt}
+use Rattle.std.specs.Int.{byte_at, bytes_low_first, to_le_bytes}
+use native.Mathlib.Nat.{div-div-eq-div-mul, pow-suc, pow-succ'}
+use borrow.Rule.Slice.PartMut.{put_mid, Post-is}
+use Rattle.model.specs.Words.{low_bytes, write_bytes}
+
+-- the lowest bytes of a number, as the library takes them
+low_first : (n k i x : ℕ) → n ≤ k → take n (bytes_low_first i k x) ≡ low_bytes n (x / 256 ^ i)
+unfolding low_bytes
+low_first zero k i x few = refl
+low_first (suc n) zero i x few = absurd (omega arith)
+low_first (suc n) (suc k) i x few =
+    let shifted : x / 256 ^ i / 256 ≡ x / 256 ^ suc i = rw pow-suc (div-div-eq-div-mul x (256 ^ i) 256) in
+    rw shifted (ap₂ ◌∷◌ (first i) (low_first n k (suc i) x (omega arith)))
+  where
+    first : (i : ℕ) → byte_at i x ≡ x / 256 ^ i % 256
+    first zero = rw div-one refl
+    first (suc i) = refl
+
+-- put in place of as many bytes
+written : (n x : ℕ) (bytes : List ℕ) (at : ℕ) → at + n ≤ length bytes
+    → take at bytes ++ (low_bytes n x ++ drop (at + n) bytes) ≡ write_bytes n x bytes at
+unfolding low_bytes write_bytes
+written zero x bytes at fits = rw add-zero (take-append-drop at bytes)
+written (suc n) x bytes at fits =
+    let next = written n (x / 256) (set bytes at (x % 256)) (suc at) (omega (arith, length-set bytes at (x % 256))) in
+    let front = take-suc-set bytes at (x % 256) (omega arith) in
+    let back = drop-set-lt (suc at + n) bytes at (x % 256) (omega arith) in
+    let place : at + suc n ≡ suc at + n = omega arith in
+    rw place (sym (append_assoc (take at bytes) (x % 256 ∷ []) _) ∙ rw (front, back) at next)
+
+pub put_written : (n x : ℕ) (bytes put : List ℕ) (at : ℕ) → n ≤ 4 → at + n ≤ length bytes → put ≡ take n (to_le_bytes w32 x)
+    → put_mid at (at + n - at) bytes put ≡ write_bytes n x bytes at
+put_written n x bytes put at few fits is =
+    ap₂ (λ (p q : List ℕ). take at bytes ++ (p ++ q))
+    (is ∙ low_first n 4 0 x few ∙ ap (low_bytes n) (div-one x))
+    (Post-is at (at + n) bytes (omega arith))
+    ∙ written n x bytes at fits
+
+-- ---- bytes that are each set by themselves
 
 -- a write that goes on by one byte
 writes_next : (n x : ℕ) (bytes : List ℕ) (at : ℕ)

@@ -1,83 +1,86 @@
-// Little-endian reads and writes. A byte past the end reads as 0; inside, a read is one load.
-ghost use Rattle.std.specs.Prelude.{◌≡◌, ◌+◌, ◌*◌, ◌<◌, length, if◌then◌else◌, nat_le, slice_index};
+// Little-endian reads and writes. A byte past the end reads as 0; inside, a read is one load and a write one store.
+ghost use Rattle.std.specs.Prelude.{◌≡◌, ℕ, ◌+◌, ◌*◌, ◌<◌, ◌≤◌, length, if◌then◌else◌, nat_le, slice_index};
 ghost use Rattle.model.specs.Words.{read_bytes, write_bytes};
 
-fn wide(x: u8) -> u32
-    ensures { (result ≡ x) × (result < 256) }
-{
-    x as u32
-}
+use std::array;
 
-// The number of four bytes, the lowest first.
+// The number of four bytes, the lowest first: the library's, with the sum in its contract, which the decoder goes by.
 pub fn little_endian(a: u8, b: u8, c: u8, d: u8) -> u32
     ensures { result ≡ a + 256 * b + 65536 * c + 16777216 * d }
 {
-    wide(a) + 256 * wide(b) + 65536 * wide(c) + 16777216 * wide(d)
+    u32::from_le_bytes([a, b, c, d])
 }
 
 // The byte at an offset.
 pub fn byte_at(bytes: &[u8], at: usize) -> u8
     ensures { result ≡ slice_index bytes.now at }
 {
-    if at < bytes.len() { bytes[at] } else { 0 }
+    bytes.get(at).copied().unwrap_or(0)
 }
 
-// The number of the two bytes at an offset.
+// The N bytes from an offset on.
+fn bytes_at<const N: usize>(bytes: &[u8], at: usize) -> [u8; N]
+    ensures { (i : ℕ) → i < N → slice_index result i ≡ slice_index bytes.now (at + i) }
+{
+    let mut taken = [0; N];
+    if at.checked_add(N).is_some_and(|end| end <= bytes.len()) {
+        taken.copy_from_slice(&bytes[at..at + N]);
+    } else if at < bytes.len() {
+        let rest = &bytes[at..];
+        taken = array::from_fn(|i| byte_at(rest, i));
+    }
+    taken
+}
+
+// The number of the two bytes at an offset. A function for each type, as `from_le_bytes` belongs to the type and to no trait.
+#[tactic(auto, unfolding(model::specs::Words::read_bytes))]
 pub fn read_u16(bytes: &[u8], at: usize) -> u16
     ensures { result ≡ read_bytes 2 bytes.now at }
 {
-    let all = bytes.len();
-    if all <= at {
-        return 0;
-    }
-    if all - at < 2 {
-        return bytes[at] as u16;
-    }
-    little_endian(bytes[at], bytes[at + 1], 0, 0) as u16
+    u16::from_le_bytes(bytes_at(bytes, at))
 }
 
 // The number of the four bytes at an offset.
+#[tactic(auto, unfolding(model::specs::Words::read_bytes))]
 pub fn read_u32(bytes: &[u8], at: usize) -> u32
     ensures { result ≡ read_bytes 4 bytes.now at }
 {
-    let all = bytes.len();
-    if all <= at {
-        return 0;
+    u32::from_le_bytes(bytes_at(bytes, at))
+}
+
+// The low N bytes of a number, from an offset on. That they are all there is asked of the caller, who knows it from a test of its
+// own: the machine from its access test, the writer from that of the buffer. Bytes, offset and number go apart here and below: they are
+// what a store takes, and nothing else goes with them.
+#[tactic(auto, using(crate::proofs::Writes::put_written))]
+pub fn store<const N: usize>(bytes: &mut [u8], at: usize, x: u32)
+    requires few { N ≤ 4 }
+    requires there { at + N ≤ length bytes.old }
+    ensures { bytes.new ≡ write_bytes N x bytes.old at }
+{
+    bytes[at..at + N].copy_from_slice(&x.to_le_bytes()[..N]);
+}
+
+// The same for any offset: nothing where they are not all there. The two names below are for callers of other crates, as no function of
+// theirs should be asked how many bytes a number has.
+fn write<const N: usize>(bytes: &mut [u8], at: usize, x: u32)
+    requires { N ≤ 4 }
+    ensures { bytes.new ≡ (if nat_le (at + N) (length bytes.old) then write_bytes N x bytes.old at else bytes.old) }
+{
+    if N <= bytes.len() && at <= bytes.len() - N {
+        store::<N>(bytes, at, x);
     }
-    if all - at < 4 {
-        return little_endian(bytes[at], byte_at(bytes, at + 1), byte_at(bytes, at + 2), 0);
-    }
-    little_endian(bytes[at], bytes[at + 1], bytes[at + 2], bytes[at + 3])
 }
 
 // The two bytes of a number, from an offset on; nothing where they are not all there.
 pub fn write_u16(bytes: &mut [u8], at: usize, x: u16)
     ensures { bytes.new ≡ (if nat_le (at + 2) (length bytes.old) then write_bytes 2 x bytes.old at else bytes.old) }
 {
-    let all = bytes.len();
-    if all < 2 {
-        return;
-    }
-    if all - 2 < at {
-        return;
-    }
-    bytes[at] = (x % 256) as u8;
-    bytes[at + 1] = (x / 256 % 256) as u8;
+    write::<2>(bytes, at, u32::from(x));
 }
 
 // The four bytes of a number, from an offset on; nothing where they are not all there.
 pub fn write_u32(bytes: &mut [u8], at: usize, x: u32)
     ensures { bytes.new ≡ (if nat_le (at + 4) (length bytes.old) then write_bytes 4 x bytes.old at else bytes.old) }
 {
-    let all = bytes.len();
-    if all < 4 {
-        return;
-    }
-    if all - 4 < at {
-        return;
-    }
-    bytes[at] = (x % 256) as u8;
-    bytes[at + 1] = (x / 256 % 256) as u8;
-    bytes[at + 2] = (x / 65536 % 256) as u8;
-    bytes[at + 3] = (x / 16777216 % 256) as u8;
+    write::<4>(bytes, at, x);
 }

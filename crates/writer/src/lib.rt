@@ -5,5 +5,6 @@
 mod check;
 mod fill;
 pub mod row;
+mod tables;
 pub mod target;
 pub mod write;

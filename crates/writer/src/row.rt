@@ -1,78 +1,34 @@
-// An instruction as a row of a table: op, a, b, w and imm, as numbers. A slice of enums has no layout, so tables have rows.
+// An instruction as a row of a table: op, a, b, w and imm, as numbers. A slice of enums has no layout, so tables have rows; and a row is an
+// array, in which hosts in C lend it as a struct of as many words.
 ghost use Rattle.std.specs.Prelude.{◌≡◌, ◌%◌};
 ghost use Rattle.model.specs.Words.{modulus};
 ghost use Rattle.model.specs.File.{decoded};
-ghost use Rattle.model.specs.Instructions.{bytes_of};
-ghost use Rattle.model.specs.Writer.{load_width_number, test_number, encoded};
-ghost use Rattle.reader.specs.Decoding.{instruction_of};
+ghost use Rattle.model.specs.Writer.{encoded};
 ghost use Rattle.writer.specs.Rows.{row_of};
 
-use model::{Instruction, LoadWidth, Test, Width};
-use reader::decode;
-use reader::decode::Decoded;
+use model::Instruction;
+use reader::decode::Encoding;
 
 pub type InstructionRow = [u32; 5];
 
-// The greatest number of a byte.
-const TOP: u32 = 255;
-
 // The instruction that a row decodes to. What does not fit its byte of the file is out of range.
-#[tactic(auto, using(model::proofs::Writer::Rows::not_bytes), unfolding(reader::specs::Decoding::instruction_of))]
-pub fn instruction_of(row: InstructionRow) -> Decoded
-    ensures { instruction_of result ≡ decoded (row_of row) }
+#[tactic(auto, using(model::proofs::Writer::Rows::not_bytes))]
+pub fn instruction_of(row: InstructionRow) -> Option<Instruction>
+    ensures { result ≡ decoded (row_of row) }
 {
-    if TOP < row[0] {
-        return Decoded::Not;
+    let [op, a, b, w, imm] = row;
+    Encoding {
+        op: u8::try_from(op).ok()?,
+        a: u8::try_from(a).ok()?,
+        b: u8::try_from(b).ok()?,
+        w: u8::try_from(w).ok()?,
+        imm,
     }
-    if TOP < row[1] {
-        return Decoded::Not;
-    }
-    if TOP < row[2] {
-        return Decoded::Not;
-    }
-    if TOP < row[3] {
-        return Decoded::Not;
-    }
-    decode::decode(
-        row[0] as u8,
-        row[1] as u8,
-        row[2] as u8,
-        row[3] as u8,
-        row[4],
-    )
+    .decode()
 }
 
-fn width_number(width: Width) -> u32
-    ensures { result ≡ bytes_of width }
-{
-    match width {
-        Width::One => 1,
-        Width::Two => 2,
-        Width::Four => 4,
-    }
-}
-
-fn load_width_number(width: LoadWidth) -> u32
-    ensures { result ≡ load_width_number width }
-{
-    match width {
-        LoadWidth::Unsigned { width } => width_number(width),
-        LoadWidth::SignedOne => 129,
-        LoadWidth::SignedTwo => 130,
-    }
-}
-
-fn test_number(test: Test) -> u32
-    ensures { result ≡ test_number test }
-{
-    match test {
-        Test::Equal => 0,
-        Test::Below => 1,
-        Test::SignedBelow => 2,
-    }
-}
-
-// The index that a jump or branch names, as a word; one that was decoded is one.
+// The index that a jump or branch names, as a word; one that was decoded is one. (`u32::try_from` would have to say what row there is
+// of an index that is none.)
 fn low_word(to: usize) -> u32
     ensures { result ≡ to % modulus }
 {
@@ -99,14 +55,14 @@ pub fn row_of(instruction: Instruction) -> InstructionRow
             10,
             a as u32,
             b as u32,
-            load_width_number(width),
+            u32::from(width),
             words::arithmetic::to_unsigned(imm),
         ],
         Instruction::Store { a, b, width, imm } => [
             11,
             a as u32,
             b as u32,
-            width_number(width),
+            u32::from(width),
             words::arithmetic::to_unsigned(imm),
         ],
         Instruction::Jump { to } => [12, 0, 0, 0, low_word(to)],
@@ -114,7 +70,7 @@ pub fn row_of(instruction: Instruction) -> InstructionRow
             13,
             a as u32,
             b as u32,
-            test_number(test),
+            u32::from(test),
             low_word(to),
         ],
         Instruction::Check { a } => [14, a as u32, 0, 0, 0],

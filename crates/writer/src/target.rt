@@ -8,6 +8,7 @@ ghost use Rattle.writer.specs.Rows.{claim_of, targets_at};
 use model::Ranges;
 use reader::target;
 use reader::target::{INDIRECT, TARGET};
+use std::array;
 
 pub type TargetRow = [u32; 18];
 
@@ -16,72 +17,49 @@ pub fn claim_of(row: TargetRow) -> Ranges
     ensures { result ≡ claim_of row }
 {
     Ranges {
-        lows: [
-            row[2], row[4], row[6], row[8], row[10], row[12], row[14], row[16],
-        ],
-        highs: [
-            row[3], row[5], row[7], row[9], row[11], row[13], row[15], row[17],
-        ],
+        lows: array::from_fn(|r| row[2 + 2 * r]),
+        highs: array::from_fn(|r| row[3 + 2 * r]),
     }
 }
 
-// The first target is indirect, at index 0; every later one stands above the one before it.
+// The first target is indirect, at index 0; every later one stands above the one before it. (The reader asks the same of
+// bytes: one function for both would take a closure for each number that it reads. What both ask of a claim is one function.)
 fn is_in_order(targets: &[TargetRow], j: usize) -> bool
     requires { j < length targets.now }
     ensures { result ≡ is_in_order (targets_at targets.now) j }
 {
-    let row = targets[j];
     if j == 0 {
-        if row[0] != 0 {
-            return false;
-        }
-        return row[1] == (INDIRECT as u32);
+        return targets[0][0] == 0 && targets[0][1] == u32::from(INDIRECT);
     }
-    let before = targets[j - 1];
-    before[0] < row[0]
+    targets[j - 1][0] < targets[j][0]
 }
 
 // The rules of a target, in a module of n instructions: 7.
+#[tactic(auto, unfolding(model::specs::File::is_good_target, model::specs::File::is_placed_target))]
 pub(crate) fn is_good_target(n: u32, targets: &[TargetRow], j: usize) -> bool
     requires { j < length targets.now }
     ensures { result ≡ is_good_target n (targets_at targets.now) j }
 {
     let row = targets[j];
     let claim = claim_of(row);
-    if n <= row[0] {
-        return false;
-    }
-    if 2 <= row[1] {
-        return false;
-    }
-    if row[1] == (INDIRECT as u32) {
-        if !target::is_indirect_claim(claim) {
-            return false;
-        }
-    }
-    if !is_in_order(targets, j) {
-        return false;
-    }
-    target::is_ordered(claim)
+    row[0] < n
+        && row[1] < 2
+        && (row[1] != u32::from(INDIRECT) || target::is_indirect_claim(claim))
+        && is_in_order(targets, j)
+        && target::is_ordered(claim)
 }
 
 // A claim over that of the target that begins at an offset of the bytes; nothing where the target is not all there.
+#[tactic(auto, unfolding(model::specs::Claims::write_ranges))]
 pub fn write_claim(bytes: &mut [u8], start: usize, claim: Ranges)
     ensures { bytes.new ≡ cond (leb (start + 68) (length bytes.old)) (write_ranges 8 start claim bytes.old) bytes.old }
 {
-    let all = bytes.len();
-    if all < TARGET {
+    if bytes.len() < TARGET || bytes.len() - TARGET < start {
         return;
     }
-    if all - TARGET < start {
-        return;
-    }
-    let lows = claim.lows;
-    let highs = claim.highs;
-    let mut r = 0;
-    while r < 8 {
-        words::bytes::write_u32(bytes, start + 4 + 8 * r, lows[r]);
-        words::bytes::write_u32(bytes, start + 8 + 8 * r, highs[r]);
-        r += 1;
+    let Ranges { lows, highs } = claim;
+    for r in 0..8 {
+        words::bytes::store::<4>(bytes, start + 4 + 8 * r, lows[r]);
+        words::bytes::store::<4>(bytes, start + 8 + 8 * r, highs[r]);
     }
 }

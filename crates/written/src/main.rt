@@ -3,6 +3,7 @@
 // stay as they were.
 #![tactic(auto)]
 
+mod answer;
 mod back;
 mod bend;
 mod both;
@@ -11,34 +12,29 @@ mod change;
 mod draw;
 mod known;
 mod limit;
-mod random;
 mod room;
-mod rows;
 mod sample;
 mod score;
-mod writers;
+mod tables;
 
+use random::Random;
+use score::Score;
 use std::io;
 
 const CASES: u32 = 2000;
 
-fn cases(tally: &mut [u32; 32]) {
-    let mut seed = 2463534242u32;
-    let mut left = CASES;
-    while 0 < left {
-        case::case(&mut seed, tally);
-        left -= 1;
+fn cases() -> Score {
+    let mut random = Random::new(2463534242);
+    let mut score = Score::default();
+    for _case in 0..CASES {
+        case::case(&mut random, &mut score);
     }
+    score
 }
 
 fn main(rt: HostRuntime) -> io::Result<()> {
     known::groups(&rt)?;
-    let mut tally = [0u32; 32];
-    cases(&mut tally);
-    score::report(
-        &rt,
-        "generated tables, alike and as they should be: ",
-        &tally,
-    )?;
-    score::report_answers(&rt, &tally)
+    let score = cases();
+    println!(rt; "generated tables, alike and as they should be: {score}")?;
+    score.print_answers(&rt)
 }

@@ -1,26 +1,13 @@
 // Document 01's loop: its tables, with three instructions more for other cases, and its file.
 use super::both::write_into;
-use super::known::answer;
-use super::room::front;
-use super::rows::{DOOR, first_code};
-use super::score::note;
+use super::score::Score;
+use super::tables::{DOOR, Space, first};
 use model::Layout;
 
 pub const BASE: u32 = 536870912;
 
 // The region's last address, DL.
 pub const LAST: u32 = BASE + 4095;
-
-// The loop's instructions, and after them a store, a branch and a shift.
-const ROWS: [[u32; 5]; 7] = [
-    [7, 1, 0, 0, 0],
-    [10, 0, 1, 4, 0],
-    [4, 1, 0, 0, 4],
-    [12, 0, 0, 0, 1],
-    [11, 0, 1, 4, 0],
-    [13, 0, 1, 1, 0],
-    [8, 0, 0, 5, 0],
-];
 
 // The loop's layout, with this size.
 pub(crate) fn loop_layout(size: u32) -> Layout {
@@ -31,19 +18,27 @@ pub(crate) fn loop_layout(size: u32) -> Layout {
     }
 }
 
-pub(crate) fn loop_code() -> [[u32; 5]; 7] {
-    ROWS
-}
-
-// The loop's doors: the first is open, and the second claims DB to DL + 4 for r1.
-pub(crate) fn loop_doors() -> [[u32; 18]; 2] {
-    let mut first = DOOR;
-    let mut second = DOOR;
-    first[1] = 1;
-    second[0] = 1;
-    second[4] = BASE;
-    second[5] = LAST + 4;
-    [first, second]
+// The loop's instructions, and after them a store, a branch and a shift; and its doors: the first is open, and the second
+// claims DB to DL + 4 for r1.
+pub(crate) fn loop_tables() -> Space<7, 2> {
+    let mut doors = [DOOR; 2];
+    doors[0][1] = 1;
+    doors[1][0] = 1;
+    doors[1][4] = BASE;
+    doors[1][5] = LAST + 4;
+    Space {
+        layout: loop_layout(4096),
+        code: [
+            [7, 1, 0, 0, 0],
+            [10, 0, 1, 4, 0],
+            [4, 1, 0, 0, 4],
+            [12, 0, 0, 0, 1],
+            [11, 0, 1, 4, 0],
+            [13, 0, 1, 1, 0],
+            [8, 0, 0, 5, 0],
+        ],
+        doors,
+    }
 }
 
 // The loop's file: a line for each header, for the layout and for each instruction; of a door one for index, kind and the
@@ -78,18 +73,13 @@ fn is_loop(file: &[u8]) -> bool {
     file == expected
 }
 
-fn write_loop(score: &mut [u32; 32], left: &mut [u8], right: &mut [u8]) {
-    let code = loop_code();
-    let doors = loop_doors();
-    let mut both = write_into(loop_layout(4096), first_code(&code, 4), &doors, left, right);
-    both.good = both.good && is_loop(front(left, 189));
-    note(score, both, answer(0, 189));
-}
-
 // The loop's tables, into a buffer of this many bytes.
-pub(crate) fn loops(score: &mut [u32; 32], room: usize) {
+pub(crate) fn loops(score: &mut Score, room: &usize) {
+    let tables = loop_tables();
     let mut left = [0u8; 256];
     let mut right = [0u8; 256];
-    let end = room % 256;
-    write_loop(score, &mut left[0..end], &mut right[0..end]);
+    let end = (*room).min(256);
+    let mut both = write_into(tables.first(4, 2), &mut left[..end], &mut right[..end]);
+    both.good = both.good && is_loop(first(&left, 189));
+    score.note(both, Ok(189));
 }

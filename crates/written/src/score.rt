@@ -1,66 +1,51 @@
-// How many answers were asked for, how many are right, and the lines that say so.
+// How many answers were asked for, how many of each writer's are right, and how often the second writer gave which.
+use super::answer::Answer;
 use super::both::Both;
-use super::rows::wide;
-use super::writers::same_answer;
-use reference::Written;
-use std::io;
+use std::{fmt, io};
 
-// The slots: files that were written, refusals by their number, then how many were asked for, and how many of each
-// writer's answers are right.
-const ASKED: usize = 29;
+#[derive(Clone, Copy, Default)]
+pub struct Score {
+    asked: u32,
+    ours: u32,
+    theirs: u32,
+    // Files that were written, and refusals by their number.
+    written: u32,
+    refused: [u32; 17],
+}
 
-const OURS: usize = 30;
+fn count(number: &mut u32, yes: bool) {
+    *number = number.wrapping_add(u32::from(yes));
+}
 
-const THEIRS: usize = 31;
+impl Score {
+    pub(crate) fn note(&mut self, both: Both, asked: Answer) {
+        count(&mut self.asked, true);
+        count(&mut self.ours, both.good && both.ours == asked);
+        count(&mut self.theirs, both.good && both.theirs == asked);
+        match both.theirs {
+            Ok(_) => count(&mut self.written, true),
+            Err(fault) => {
+                if let Some(number) = self.refused.get_mut(fault.number as usize) {
+                    count(number, true);
+                }
+            }
+        }
+    }
 
-fn count(score: &mut [u32; 32], slot: usize, yes: bool) {
-    let i = slot % 32;
-    if yes {
-        score[i] = std::num::wrapping_add_u32(score[i], 1);
+    // Each answer that was given. Lines and no `Display`: how many they are depends on the answers.
+    pub(crate) fn print_answers(&self, rt: &impl Print) -> io::Result<()> {
+        println!(rt; "written: {}", self.written)?;
+        for (number, given) in self.refused.iter().enumerate() {
+            if 0 < *given {
+                println!(rt; "refused {number}: {given}")?;
+            }
+        }
+        Ok(())
     }
 }
 
-fn slot(x: Written) -> usize {
-    if x.refused { wide(x.first) } else { 0 }
-}
-
-pub(crate) fn note(score: &mut [u32; 32], both: Both, asked: Written) {
-    let x = both.ours;
-    let y = both.theirs;
-    count(score, ASKED, true);
-    count(score, OURS, same_answer(x, asked, both.good));
-    count(score, THEIRS, same_answer(y, asked, both.good));
-    count(score, slot(y), true);
-}
-
-fn write(rt: &impl Print, words: &str, number: u32) -> io::Result<()> {
-    print!(rt; "{words}{number}")
-}
-
-pub(crate) fn report(rt: &impl Print, words: &str, score: &[u32; 32]) -> io::Result<()> {
-    write(rt, words, score[OURS])?;
-    write(rt, " and ", score[THEIRS])?;
-    write(rt, " of ", score[ASKED])?;
-    println!(rt)
-}
-
-// An answer that was given.
-fn answers(rt: &impl Print, number: u32, given: u32) -> io::Result<()> {
-    if 0 < given {
-        write(rt, "refused ", number)?;
-        write(rt, ": ", given)?;
-        println!(rt)?;
+impl fmt::Display for Score {
+    fn fmt<W: fmt::Write>(&self, f: &mut fmt::Formatter<W>) -> fmt::Result {
+        write!(f, "{} and {} of {}", self.ours, self.theirs, self.asked)
     }
-    Ok(())
-}
-
-pub(crate) fn report_answers(rt: &impl Print, score: &[u32; 32]) -> io::Result<()> {
-    write(rt, "written: ", score[0])?;
-    println!(rt)?;
-    let mut number = 1u32;
-    while number < 29 {
-        answers(rt, number, score[wide(number) % 32])?;
-        number += 1;
-    }
-    Ok(())
 }

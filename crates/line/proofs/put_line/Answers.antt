@@ -11,5 +11,5 @@ pub put-requires : goal.put-requires
 put-requires c = omega (arith, ten_digits _ c.ranges.first.fits, ten_digits _ c.ranges.second.fits)
 
 pub returns : goal.returns
-returns c = let fields = both (omega arith) (both (omega arith) c.put_word-at.ensures c.put_field-at.ensures) c.put_field-at-2.ensures in
+returns c = let fields = both (omega arith) (both (omega arith) c.put-at.ensures c.put_field-at.ensures) c.put_field-at-2.ensures in
     both (omega arith) fields c.put.ensures

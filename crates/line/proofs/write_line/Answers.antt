@@ -9,10 +9,10 @@ use Rattle.line.proofs.write_line.Goals as goal
 from_start : {before after : List ℕ} {r : ℕ} (j : Judgement) → Wrote before after 0 (line_of j) r → LinePost j before after r
 from_start j wrote = record { count = wrote.ends ∙ zero-add _; buffer = rw zero-add at wrote.buffer }
 
-pub returns-in-Accepted : goal.returns-in-Accepted
+pub returns-in-Ok : goal.returns-in-Ok
 unfolding judgement_of line_of
-returns-in-Accepted c = rw c.in-Accepted.is (from_start _ c.put_line.ensures)
+returns-in-Ok c = rw c.in-Ok.is (from_start _ c.put_line.ensures)
 
-pub returns-in-Refused : goal.returns-in-Refused
+pub returns-in-Err : goal.returns-in-Err
 unfolding judgement_of line_of fault_of
-returns-in-Refused c = rw c.in-Refused.is (from_start _ (rw c.rule_number.ensures at c.put_line-in-Refused.ensures))
+returns-in-Err c = rw c.in-Err.is (from_start _ (rw c.from.ensures at c.put_line-in-Err.ensures))

@@ -6,6 +6,6 @@ use Rattle.madsjirn.proofs.madsjirn_work_out.Goals as goal
 
 pub returns : goal.returns
 returns c = record {
-  numbers = c.verdict_answer.ensures ∙ ap (λ (a : Answered). verdict_numbers a.judgement) c.work_out.ensures;
+  numbers = c.from.ensures ∙ ap (λ (a : Answered). verdict_numbers a.judgement) c.work_out.ensures;
   file_is = ap (λ (a : Answered). a.bytes) c.work_out.ensures;
 }

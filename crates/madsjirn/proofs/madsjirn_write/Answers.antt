@@ -6,6 +6,6 @@ use Rattle.madsjirn.proofs.madsjirn_write.Goals as goal
 
 pub returns : goal.returns
 returns c = record {
-  numbers = c.write_answer.ensures ∙ ap (λ (w : Written). write_numbers w.report) c.write.ensures;
+  numbers = c.from.ensures ∙ ap (λ (w : Written). write_numbers w.report) c.write.ensures;
   buffer_is = ap (λ (w : Written). w.buffer) c.write.ensures;
 }

@@ -3,7 +3,7 @@
 use Prim.Native.Nat.{ℕ, ◌≤◌}
 use mathlib.Core.Path.{◌≡◌, refl, sym, ap, ◌∙◌}
 use mathlib.Core.List.{List, map, map-map}
-use mathlib.Core.Option.{Option, none, some}
+use Rattle.std.specs.Prelude.{Option, None, Some}
 use native.Mathlib.Omega.{arith}
 use Rattle.model.specs.declared.Ranges.{Ranges}
 use Rattle.model.specs.declared.Target.{Target}
@@ -36,30 +36,30 @@ sweeps_end = record {
 
 module _ (file : List ℕ) where
   -- where nothing is refused before sweeping, the finished file is judged
-  pub judged_answer : first_fault (sweepable file) ≡ none → (j : Judgement) → judgement (finished_file file) ≡ j
+  pub judged_answer : first_fault (sweepable file) ≡ None → (j : Judgement) → judgement (finished_file file) ≡ j
       → work_out file ≡ judged_as file (finished_file file) j
   unfolding work_out
   judged_answer passes j is = ap (after_sweeping file) passes ∙ ap (judged_as file (finished_file file)) is
 
   -- what holds of a refusal before sweeping, and of either judgement of the finished file, holds of the answer
   by_answer : (P : Answered → Type 0)
-      → ((f : Fault) → first_fault (sweepable file) ≡ some f → P (record { judgement = refused f; bytes = file }))
-      → ((n k : ℕ) → first_fault (sweepable file) ≡ none → judgement (finished_file file) ≡ accepted n k
+      → ((f : Fault) → first_fault (sweepable file) ≡ Some f → P (record { judgement = refused f; bytes = file }))
+      → ((n k : ℕ) → first_fault (sweepable file) ≡ None → judgement (finished_file file) ≡ accepted n k
       → P (record { judgement = accepted n k; bytes = finished_file file }))
-      → ((f : Fault) → first_fault (sweepable file) ≡ none → judgement (finished_file file) ≡ refused f
+      → ((f : Fault) → first_fault (sweepable file) ≡ None → judgement (finished_file file) ≡ refused f
       → P (record { judgement = refused f; bytes = file }))
       → P (work_out file)
   unfolding work_out
   by_answer P early accepts refuses = by_first (first_fault (sweepable file)) refl
     where
-      by_judgement : first_fault (sweepable file) ≡ none → (j : Judgement) → judgement (finished_file file) ≡ j
+      by_judgement : first_fault (sweepable file) ≡ None → (j : Judgement) → judgement (finished_file file) ≡ j
           → P (judged_as file (finished_file file) j)
       by_judgement passes (accepted n k) is = accepts n k passes is
       by_judgement passes (refused f) is = refuses f passes is
 
       by_first : (first : Option Fault) → first_fault (sweepable file) ≡ first → P (after_sweeping file first)
-      by_first none passes = by_judgement passes (judgement (finished_file file)) refl
-      by_first (some f) found = early f found
+      by_first None passes = by_judgement passes (judgement (finished_file file)) refl
+      by_first (Some f) found = early f found
 
 differ : {n k : ℕ} {f : Fault} {A : Type 0} → accepted n k ≡ refused f → A
 differ same = absurd (let impossible : ◌≡◌ {A = ℕ} 0 1 = cc in omega arith)
@@ -78,7 +78,7 @@ judged_by_module file bytes placed =
 
 -- what holds of a refusal's number, before sweeping and after
 refused_numbered : (file : List ℕ) (P : ℕ → Type 0) → ((n : ℕ) → 1 ≤ n → n ≤ 7 → P n)
-    → ((f : Fault) → first_fault (sweepable file) ≡ none → first_broken (finished_file file) ≡ some f → P f.number)
+    → ((f : Fault) → first_fault (sweepable file) ≡ None → first_broken (finished_file file) ≡ Some f → P f.number)
     → (f : Fault) → (work_out file).judgement ≡ refused f → P f.number
 refused_numbered file P early late f =
     by_answer file (λ a. a.judgement ≡ refused f → P f.number)
@@ -144,7 +144,7 @@ module _ (file : List ℕ) (placed : FilePlaced file) (other : ℕ → Ranges) w
       ap (λ a. a.bytes) (garbled_answer (accepted n k) accepts) ∙ sym (ap (λ a. a.bytes) (answer (accepted n k) accepts))
 
 -- the worked-out claims are other claims too
-finished_again : (file : List ℕ) (n k : ℕ) → first_fault (sweepable file) ≡ none → judgement (finished_file file) ≡ accepted n k
+finished_again : (file : List ℕ) (n k : ℕ) → first_fault (sweepable file) ≡ None → judgement (finished_file file) ≡ accepted n k
     → work_out (finished_file file) ≡ record { judgement = accepted n k; bytes = finished_file file }
 unfolding finished_file
 finished_again file n k passes judged =

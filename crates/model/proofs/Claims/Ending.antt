@@ -4,7 +4,7 @@ use Prim.Native.Nat.{ℕ, ◌*◌, ◌≤◌, ◌<◌}
 use mathlib.Core.Path.{◌≡◌, refl, ap}
 use mathlib.Core.Bool.{Bool, true, false, cond, false≢true}
 use mathlib.Core.List.{List, [], ◌∷◌, map}
-use mathlib.Core.Option.{Option, none, some, get_or}
+use Rattle.std.specs.Prelude.{Option, None, Some, unwrap_or}
 use native.Mathlib.Omega.{arith}
 use lib.ListN.{length}
 use Rattle.model.specs.declared.Ranges.{Ranges}
@@ -38,9 +38,9 @@ begun_good : (t : Target) → OpenClaim t → Good (begun t)
 begun_good t open_claim = by_kind t.indirect open_claim
   where
     by_kind : (indirect : Bool) → (indirect ≡ true → t.claim ≡ unknown)
-        → Good (fresh t.index indirect (cond indirect (some t.claim) none))
-    by_kind false o = fresh_good t.index false none (λ is. absurd (false≢true is)) tt
-    by_kind true o = fresh_good t.index true (some t.claim) (λ is. ap some (o refl)) (rw (o refl) bounded_unknown)
+        → Good (fresh t.index indirect (cond indirect (Some t.claim) None))
+    by_kind false o = fresh_good t.index false None (λ is. absurd (false≢true is)) tt
+    by_kind true o = fresh_good t.index true (Some t.claim) (λ is. ap Some (o refl)) (rw (o refl) bounded_unknown)
 
 begun_ready : (ts : List Target) → OpenClaims ts → Ready (map begun ts) × (rooms (map begun ts) ≤ 73 * length ts)
 unfolding rooms
@@ -49,7 +49,7 @@ begun_ready (t ∷ ts) o =
     let rest = begun_ready ts o.1 in (
       record {
         good = (begun_good t o.0, rest.0.good);
-        clear = (fresh_clear t.index t.indirect (cond t.indirect (some t.claim) none), rest.0.clear);
+        clear = (fresh_clear t.index t.indirect (cond t.indirect (Some t.claim) None), rest.0.clear);
       },
       omega (arith, room_at_most (begun t), rest.1),
     )
@@ -68,14 +68,14 @@ all_proper [] good all = tt
 all_proper (e ∷ es) good all = (
   record {
     bounded = by_claim e.claim good.0.held;
-    open_claim = λ is. ap (λ (c : Option Ranges). get_or c unknown) (good.0.fixed is);
+    open_claim = λ is. ap (λ (c : Option Ranges). unwrap_or c unknown) (good.0.fixed is);
   },
   all_proper es good.1 all.1,
 )
   where
-    by_claim : (claim : Option Ranges) → IfThere (Held e) claim → Bounded (get_or claim unknown)
-    by_claim none h = bounded_unknown
-    by_claim (some claim) h = h.bounded
+    by_claim : (claim : Option Ranges) → IfThere (Held e) claim → Bounded (unwrap_or claim unknown)
+    by_claim None h = bounded_unknown
+    by_claim (Some claim) h = h.bounded
 
 -- ---- the law
 
@@ -92,7 +92,7 @@ module _ (p : Program) (fit : Fit p) where
   unfolding worked_out
   ends = sweeping_ends (code_of p) code_modest (most_sweeps p) 0 (map begun p.targets) begins_ready.0 begins_ready.1
 
-  pub none_left : given (worked_out p).entries ≡ none
+  pub none_left : given (worked_out p).entries ≡ None
   none_left = none_given (worked_out p).entries ends.reached
 
   -- allowing for more sweeps would give the same, and the same count of them

@@ -3,7 +3,7 @@
 use Prim.Native.Nat.{ℕ, ◌+◌, ◌-◌, ◌≤◌, ◌<◌}
 use mathlib.Core.Path.{◌≡◌, refl, ap, ◌∙◌}
 use mathlib.Core.Bool.{Bool, true, false}
-use mathlib.Core.Option.{Option, none, some}
+use Rattle.std.specs.Prelude.{Option, None, Some}
 use native.Mathlib.Omega.{arith}
 use native.Mathlib.Nat.{zero-add}
 use lib.ListN.{length, get_or, get_or-replicate}
@@ -25,12 +25,12 @@ pub record Held (e : Entry) (claim : Ranges) : Type 0 where
   pub full : (r : ℕ) → r < 8 → 9 ≤ growth e r → (low claim r ≡ 0) × (high claim r ≡ top)
 
 pub record Good (e : Entry) : Type 0 where
-  pub fixed : e.indirect ≡ true → e.claim ≡ some unknown
+  pub fixed : e.indirect ≡ true → e.claim ≡ Some unknown
   pub grown8 : length e.grown ≡ 8
   pub grows8 : length e.grows ≡ 8
   pub few : (r : ℕ) → r < 8 → growth e r ≤ 9
   -- before it is reached nothing has grown
-  pub untouched : e.claim ≡ none → (r : ℕ) → r < 8 → growth e r ≡ 0
+  pub untouched : e.claim ≡ None → (r : ℕ) → r < 8 → growth e r ≡ 0
   pub held : IfThere (Held e) e.claim
 
 -- no register has grown in this sweep
@@ -43,8 +43,8 @@ abbrev pub room_at : Entry → ℕ → ℕ
 room_at e r = 9 - growth e r
 
 abbrev pub room_if : Entry → Option Ranges → ℕ
-room_if e none = 73
-room_if e (some claim) = sum_below 8 (room_at e)
+room_if e None = 73
+room_if e (Some claim) = sum_below 8 (room_at e)
 
 abbrev pub room : Entry → ℕ
 room e = room_if e e.claim
@@ -57,8 +57,8 @@ pub room_at_most : (e : Entry) → room e ≤ 73
 room_at_most e = by_claim e.claim
   where
     by_claim : (claim : Option Ranges) → room_if e claim ≤ 73
-    by_claim none = omega arith
-    by_claim (some claim) = omega (arith, reached_room e)
+    by_claim None = omega arith
+    by_claim (Some claim) = omega (arith, reached_room e)
 
 -- ---- a fresh entry
 
@@ -68,7 +68,7 @@ fresh_growth i indirect claim r h = rw (get_or-replicate {A = ℕ} 8 r 0 0 h, ge
 pub fresh_clear : (i : ℕ) (indirect : Bool) (claim : Option Ranges) → Clear (fresh i indirect claim)
 fresh_clear i indirect claim = record { still = λ r h. get_or-replicate 8 r false false h }
 
-pub fresh_good : (i : ℕ) (indirect : Bool) (claim : Option Ranges) → (indirect ≡ true → claim ≡ some unknown) → IfThere Bounded claim
+pub fresh_good : (i : ℕ) (indirect : Bool) (claim : Option Ranges) → (indirect ≡ true → claim ≡ Some unknown) → IfThere Bounded claim
     → Good (fresh i indirect claim)
 fresh_good i indirect claim fixed b = record {
   fixed = fixed;
@@ -80,8 +80,8 @@ fresh_good i indirect claim fixed b = record {
 }
   where
     by_claim : (c : Option Ranges) → IfThere Bounded c → IfThere (Held (fresh i indirect claim)) c
-    by_claim none b' = tt
-    by_claim (some c) b' =
+    by_claim None b' = tt
+    by_claim (Some c) b' =
         record { bounded = b'; full = λ r h nine. absurd (omega (arith, fresh_growth i indirect claim r h)) }
 
 -- ---- an entry when its sweep is over
@@ -107,8 +107,8 @@ counted_good e g = record {
 }
   where
     by_claim : (claim : Option Ranges) → IfThere (Held e) claim → IfThere (Held (counted e)) claim
-    by_claim none h = tt
-    by_claim (some claim) h =
+    by_claim None h = tt
+    by_claim (Some claim) h =
         record { bounded = h.bounded; full = λ r r8 nine. h.full r r8 (omega (arith, counted_growth e r r8)) }
 
 pub counted_room : (e : Entry) → room (counted e) ≤ room e
@@ -116,5 +116,5 @@ unfolding counted
 counted_room e = by_claim e.claim
   where
     by_claim : (claim : Option Ranges) → room_if (counted e) claim ≤ room_if e claim
-    by_claim none = omega arith
-    by_claim (some claim) = sum_mono 8 (room_at (counted e)) (room_at e) (λ r r8. omega (arith, counted_growth e r r8))
+    by_claim None = omega arith
+    by_claim (Some claim) = sum_mono 8 (room_at (counted e)) (room_at e) (λ r r8. omega (arith, counted_growth e r r8))

@@ -4,7 +4,8 @@ use Prim.Native.Nat.{ℕ, zero, suc, ◌+◌, ◌≤◌, ◌<◌}
 use mathlib.Core.Path.{◌≡◌, sym, ap, ◌∙◌}
 use mathlib.Core.Bool.{Bool, true, cond}
 use mathlib.Core.List.{List, [], ◌∷◌, ◌++◌, map}
-use mathlib.Core.Option.{none, some, some-injective}
+use Rattle.std.specs.Prelude.{None, Some}
+use Rattle.std.proofs.lemmas.Option.{same_Some}
 use native.Mathlib.Omega.{arith}
 use native.Mathlib.Decide.{ℕ_discrete}
 use lib.Dec.{eqb}
@@ -36,9 +37,9 @@ alike_begun t t' same =
       claim = λ is. fixed t.indirect t'.indirect is (sym kind ∙ is) (ap (λ e. e.claim) same);
     }
   where
-    fixed : (b b' : Bool) → b ≡ true → b' ≡ true → cond b (some t.claim) none ≡ cond b' (some t'.claim) none
+    fixed : (b b' : Bool) → b ≡ true → b' ≡ true → cond b (Some t.claim) None ≡ cond b' (Some t'.claim) None
         → t.claim ≡ t'.claim
-    fixed b b' is is' q = some-injective t.claim t'.claim (rw (is, is') at q)
+    fixed b b' is is' q = same_Some t.claim t'.claim (rw (is, is') at q)
 
 all_alike_begun : (ts ts' : List Target) → map begun ts ≡ map begun ts' → AllAlike ts ts'
 all_alike_begun [] [] same = tt

@@ -3,7 +3,7 @@ use Prim.Native.Nat.{ℕ, zero, suc, ◌+◌, ◌<◌}
 use mathlib.Core.Path.{◌≡◌, refl, sym, ◌∙◌}
 use mathlib.Core.Bool.{Bool}
 use mathlib.Core.List.{List}
-use mathlib.Core.Option.{Option, some}
+use Rattle.std.specs.Prelude.{Option, Some}
 use native.Mathlib.Omega.{arith}
 use borrow.Author.Tests.{eqb-true}
 use lib.ListN.{length, get_or}
@@ -36,22 +36,22 @@ row_operands test row operands = provided_row Operands test row (λ _. operands)
 rows_operands : (a b w imm : ℕ) → imm < modulus → Rows Operands (rows a b w imm)
 unfolding rows
 rows_operands a b w imm word =
-    row_operands (has_nothing a b w imm) (some Halt) tt
-    then row_operands (has_a_imm a b w) (some (Set a imm)) word
-    then row_operands (has_a_b a b w imm) (some (Copy a b)) tt
-    then row_operands (has_a_b a b w imm) (some (Add a b)) tt
-    then row_operands (has_a_imm a b w) (some (Addi a (signed imm))) (signed_signed32 imm word)
-    then row_operands (has_a_b a b w imm) (some (Sub a b)) tt
-    then row_operands (has_a_imm a b w) (some (Andi a imm)) tt
-    then row_operands (has_a a b w imm) (some (Guard a)) tt
-    then row_operands (has_a_amount a b w imm) (some (Shr a w)) tt
-    then row_operands (has_a_amount a b w imm) (some (Sar a w)) tt
+    row_operands (has_nothing a b w imm) (Some Halt) tt
+    then row_operands (has_a_imm a b w) (Some (Set a imm)) word
+    then row_operands (has_a_b a b w imm) (Some (Copy a b)) tt
+    then row_operands (has_a_b a b w imm) (Some (Add a b)) tt
+    then row_operands (has_a_imm a b w) (Some (Addi a (signed imm))) (signed_signed32 imm word)
+    then row_operands (has_a_b a b w imm) (Some (Sub a b)) tt
+    then row_operands (has_a_imm a b w) (Some (Andi a imm)) tt
+    then row_operands (has_a a b w imm) (Some (Guard a)) tt
+    then row_operands (has_a_amount a b w imm) (Some (Shr a w)) tt
+    then row_operands (has_a_amount a b w imm) (Some (Sar a w)) tt
     then row_operands (has_a_b_w_imm a b) _ (mapped_row Operands (λ (v : LoadWidth). Load a b v (signed imm)) (load_width_of w) (λ v. tt))
     then row_operands (has_a_b_w_imm a b) _ (mapped_row Operands (λ (v : Width). Store a b v (signed imm)) (width_of w) (λ v. tt))
-    then row_operands (has_imm a b w) (some (Jump imm)) tt
+    then row_operands (has_imm a b w) (Some (Jump imm)) tt
     then row_operands (has_a_b_w_imm a b) _ (mapped_row Operands (λ (t : Test). Branch a b t imm) (test_of w) (λ t. tt))
-    then row_operands (has_a a b w imm) (some (Check a)) tt
-    then row_operands (has_a a b w imm) (some (Jumpr a)) tt
+    then row_operands (has_a a b w imm) (Some (Check a)) tt
+    then row_operands (has_a a b w imm) (Some (Jumpr a)) tt
     then no_more
 
 -- ---- indirect claims

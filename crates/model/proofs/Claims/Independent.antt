@@ -4,7 +4,7 @@ use Prim.Native.Nat.{ℕ, zero, suc, ◌+◌, ◌*◌}
 use mathlib.Core.Path.{◌≡◌, refl, sym, ap, ◌∙◌}
 use mathlib.Core.Bool.{Bool, true, false, cond}
 use mathlib.Core.List.{List, [], ◌∷◌, map, map-map}
-use mathlib.Core.Option.{Option, none, some, get_or}
+use Rattle.std.specs.Prelude.{Option, None, Some, unwrap_or}
 use lib.Dec.{eqb}
 use lib.ListN.{length, length-map}
 use Rattle.model.specs.declared.Ranges.{Ranges}
@@ -36,7 +36,7 @@ begun_alike : (t t' : Target) → Alike t t' → begun t ≡ begun t'
 begun_alike t t' a = rw (← a.index, ← a.indirect) (by_kind t.indirect a.claim)
   where
     by_kind : (b : Bool) → (b ≡ true → t.claim ≡ t'.claim)
-        → fresh t.index b (cond b (some t.claim) none) ≡ fresh t.index b (cond b (some t'.claim) none)
+        → fresh t.index b (cond b (Some t.claim) None) ≡ fresh t.index b (cond b (Some t'.claim) None)
     by_kind true same = rw (same refl)
     by_kind false same = refl
 
@@ -80,7 +80,7 @@ abbrev AgainAs : List Entry → List Entry → Type 0
 AgainAs es es' = map again es' ≡ map again es
 
 -- an inner entry begins again as it began, whatever its claim
-again_inner : (i : ℕ) (b : Bool) (c c' : Ranges) → b ≡ false → fresh i b (cond b (some c) none) ≡ fresh i b (cond b (some c') none)
+again_inner : (i : ℕ) (b : Bool) (c c' : Ranges) → b ≡ false → fresh i b (cond b (Some c) None) ≡ fresh i b (cond b (Some c') None)
 again_inner i b c c' inner = rw inner
 
 again_reached : (e : Entry) (k : Ranges) → covers k e ≡ false → again (reached e e.claim k) ≡ again e
@@ -91,8 +91,8 @@ again_reached e k outside = by_claim e.claim
     inner = (neither e.indirect _ outside).0
 
     by_claim : (claim : Option Ranges) → again (reached e claim k) ≡ again e
-    by_claim none = again_inner e.index e.indirect k (get_or e.claim unknown) inner
-    by_claim (some claim) = again_inner e.index e.indirect _ (get_or e.claim unknown) inner
+    by_claim None = again_inner e.index e.indirect k (unwrap_or e.claim unknown) inner
+    by_claim (Some claim) = again_inner e.index e.indirect _ (unwrap_or e.claim unknown) inner
 
 again_reach_at : (es : List Entry) (to : ℕ) (k : Ranges) → all_of (entry_at es to) (covers k) ≡ false → AgainAs es (reach_at es to k)
 unfolding entry_at reach_at
@@ -115,8 +115,8 @@ again_arrive to k t = by_test (all_of (entry_at t.entries to) (covers k)) refl
     by_test false e = rw (e, arrive) (again_reach_at t.entries to k e)
 
 again_taken : (p : Program) (i : ℕ) (k : Ranges) (to : Option ℕ) (t : Table) → AgainAs t.entries (along_taken p i k to t).entries
-again_taken p i k none t = refl
-again_taken p i k (some to) t = again_arrive to _ t
+again_taken p i k None t = refl
+again_taken p i k (Some to) t = again_arrive to _ t
 
 again_next : (p : Program) (i : ℕ) (k : Ranges) (falls : Bool) (t : Table)
     → AgainAs t.entries (along_next p i k falls t).table.entries
@@ -125,8 +125,8 @@ again_next p i k true t = again_arrive (i + 1) _ t
 
 again_visit : (p : Program) (i : ℕ) (k : Option Ranges) (t : Table) → AgainAs t.entries (visit p i k t).table.entries
 unfolding visit
-again_visit p i none t = refl
-again_visit p i (some k) t =
+again_visit p i None t = refl
+again_visit p i (Some k) t =
     again_next p i k (traits_at p i).falls (along_taken p i k (traits_at p i).names t) ∙ again_taken p i k (traits_at p i).names t
 
 again_sweep : (p : Program) (es : List Entry) (i : ℕ) → AgainAs es (sweep p es i).table.entries
@@ -145,10 +145,10 @@ again_given (e ∷ es) = by_claim e.claim refl (given es) (again_given es)
   where
     by_claim : (claim : Option Ranges) → e.claim ≡ claim → (later : Option (List Entry)) → IfThere (AgainAs es) later
         → IfThere (AgainAs (e ∷ es)) (given_or e es claim later)
-    by_claim none is later rest =
-        ap (λ (c : Option Ranges). fresh e.index e.indirect (cond e.indirect (some (get_or c unknown)) none) ∷ map again es) (sym is)
-    by_claim (some claim) is none rest = tt
-    by_claim (some claim) is (some es') rest = ap (λ (xs : List Entry). again e ∷ xs) rest
+    by_claim None is later rest =
+        ap (λ (c : Option Ranges). fresh e.index e.indirect (cond e.indirect (Some (unwrap_or c unknown)) None) ∷ map again es) (sym is)
+    by_claim (Some claim) is None rest = tt
+    by_claim (Some claim) is (Some es') rest = ap (λ (xs : List Entry). again e ∷ xs) rest
 
 again_following : (p : Program) (es : List Entry) → IfThere (AgainAs es) (following p es)
 unfolding following
@@ -167,15 +167,15 @@ again_sweeping p (suc most) made es =
   where
     by_next : (next : Option (List Entry)) → IfThere (AgainAs es) next
         → ((es' : List Entry) → AgainAs es' (sweeping p most (suc made) es').entries) → AgainAs es (gone_on p most made es next).entries
-    by_next none same rest = refl
-    by_next (some es') same rest = rest es' ∙ same
+    by_next None same rest = refl
+    by_next (Some es') same rest = rest es' ∙ same
 
 again_begun : (ts : List Target) → map again (map begun ts) ≡ map begun ts
 again_begun [] = refl
 again_begun (t ∷ ts) = let e = by_kind t.indirect in let es = again_begun ts in cc
   where
-    by_kind : (b : Bool) → fresh t.index b (cond b (some (get_or (cond b (some t.claim) none) unknown)) none)
-        ≡ fresh t.index b (cond b (some t.claim) none)
+    by_kind : (b : Bool) → fresh t.index b (cond b (Some (unwrap_or (cond b (Some t.claim) None) unknown)) None)
+        ≡ fresh t.index b (cond b (Some t.claim) None)
     by_kind true = refl
     by_kind false = refl
 

@@ -4,7 +4,8 @@ use Prim.Native.Nat.{ℕ, zero, suc, ◌+◌, ◌≤◌}
 use mathlib.Core.Path.{◌≡◌, refl, sym, ap, ◌∙◌, subst}
 use mathlib.Core.Bool.{Bool, true, false, true≢false, false≢true}
 use mathlib.Core.List.{List}
-use mathlib.Core.Option.{Option, none, some, none-ne-some, some-injective}
+use Rattle.std.specs.Prelude.{Option, None, Some}
+use Rattle.std.proofs.lemmas.Option.{none-some, same_Some}
 use native.Mathlib.Omega.{arith}
 use native.Mathlib.Decide.{ℕ_discrete}
 use Rattle.model.specs.declared.Ranges.{Ranges}
@@ -40,17 +41,17 @@ arrive_still to k t still = by_test (all_of (entry_at t.entries to) (covers k)) 
 
 -- no edge of an instruction would widen a claim
 pub record EdgesCovered (p : Program) (es : List Entry) (i : ℕ) (k : Ranges) : Type 0 where
-  pub taken : (to : ℕ) → (traits_at p i).names ≡ some to → Covered es to (on_taken p i k)
+  pub taken : (to : ℕ) → (traits_at p i).names ≡ Some to → Covered es to (on_taken p i k)
   pub next : (traits_at p i).falls ≡ true → Covered es (i + 1) (on_next p i k)
 
 module _ (p : Program) (i : ℕ) (k : Ranges) where
   taken_still : (to : Option ℕ) (t : Table) → (along_taken p i k to t).changed ≡ false
-      → ((o : ℕ) → to ≡ some o → Covered t.entries o (on_taken p i k))
+      → ((o : ℕ) → to ≡ Some o → Covered t.entries o (on_taken p i k))
       × (along_taken p i k to t ≡ t)
-  taken_still none t still = (λ o e. absurd (none-ne-some o e), refl)
-  taken_still (some to) t still =
+  taken_still None t still = (λ o e. absurd (none-some o e), refl)
+  taken_still (Some to) t still =
       let a = arrive_still to (on_taken p i k) t still in
-      (λ o e. subst (λ (x : ℕ). Covered t.entries x (on_taken p i k)) (some-injective to o e) a.0, a.1)
+      (λ o e. subst (λ (x : ℕ). Covered t.entries x (on_taken p i k)) (same_Some to o e) a.0, a.1)
 
   next_still : (falls : Bool) (t : Table) → (along_next p i k falls t).table.changed ≡ false
       → (falls ≡ true → Covered t.entries (i + 1) (on_next p i k))
@@ -62,8 +63,8 @@ module _ (p : Program) (i : ℕ) (k : Ranges) where
 pub visit_still : (p : Program) (i : ℕ) (k : Option Ranges) (t : Table) → (visit p i k t).table.changed ≡ false
     → ((visit p i k t).table ≡ t) × IfThere (EdgesCovered p t.entries i) k
 unfolding visit
-visit_still p i none t still = (refl, tt)
-visit_still p i (some k) t still =
+visit_still p i None t still = (refl, tt)
+visit_still p i (Some k) t still =
     let t' : Table = along_taken p i k (traits_at p i).names t in
     let n = next_still p i k (traits_at p i).falls t' still in
     let same : (along_next p i k (traits_at p i).falls t').table ≡ t' = n.1 in

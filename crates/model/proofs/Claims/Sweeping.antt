@@ -4,7 +4,7 @@ use Prim.Native.Nat.{ℕ, zero, suc, ◌+◌, ◌≤◌, ◌<◌}
 use mathlib.Core.Path.{◌≡◌, refl, ap, subst}
 use mathlib.Core.Bool.{Bool, true, false}
 use mathlib.Core.List.{List, [], ◌∷◌, map}
-use mathlib.Core.Option.{Option, none, some}
+use Rattle.std.specs.Prelude.{Option, None, Some}
 use native.Mathlib.Omega.{arith}
 use lib.ListN.{length, get_or-replicate}
 use Rattle.model.specs.declared.Ranges.{Ranges}
@@ -26,12 +26,12 @@ ModestCode p = (i : ℕ) → Modest (region_range p.layout) (shape_at p i)
 
 -- what is known at an index, if anything: a claim, or what is known along the edge to it
 pub claim_bounded : (k : Option Ranges) → IfThere Bounded k → (o : Option Entry) → IfThere Good o → IfThere Bounded (claim_else k o)
-claim_bounded k b none g = b
-claim_bounded k b (some e) g = by_claim e.claim g.held
+claim_bounded k b None g = b
+claim_bounded k b (Some e) g = by_claim e.claim g.held
   where
     by_claim : (claim : Option Ranges) → IfThere (Held e) claim → IfThere Bounded claim
-    by_claim none h = tt
-    by_claim (some claim) h = h.bounded
+    by_claim None h = tt
+    by_claim (Some claim) h = h.bounded
 
 pub record SweptTo (from : List Entry) (s : Sweep) : Type 0 where
   pub known : IfThere Bounded s.known
@@ -39,8 +39,8 @@ pub record SweptTo (from : List Entry) (s : Sweep) : Type 0 where
 
 module _ (p : Program) (modest : ModestCode p) (from : List Entry) (clear : All Clear from) where
   pub taken_swept : (i : ℕ) (k : Ranges) → Bounded k → (to : Option ℕ) (t : Table) → Swept from t → Swept from (along_taken p i k to t)
-  taken_swept i k b none t s = s
-  taken_swept i k b (some to) t s = arrive_swept from clear to _ (bounded_taken (shape_at p i) b) t s
+  taken_swept i k b None t s = s
+  taken_swept i k b (Some to) t s = arrive_swept from clear to _ (bounded_taken (shape_at p i) b) t s
 
   pub next_swept : (i : ℕ) (k : Ranges) → Bounded k → (falls : Bool) (t : Table) → Swept from t → SweptTo from (along_next p i k falls t)
   next_swept i k b false t s = record { known = tt; table = s }
@@ -50,8 +50,8 @@ module _ (p : Program) (modest : ModestCode p) (from : List Entry) (clear : All 
 
   pub visit_swept : (i : ℕ) (k : Option Ranges) → IfThere Bounded k → (t : Table) → Swept from t → SweptTo from (visit p i k t)
   unfolding visit
-  visit_swept i none b t s = record { known = tt; table = s }
-  visit_swept i (some k) b t s = next_swept i k b (traits_at p i).falls _ (taken_swept i k b (traits_at p i).names t s)
+  visit_swept i None b t s = record { known = tt; table = s }
+  visit_swept i (Some k) b t s = next_swept i k b (traits_at p i).falls _ (taken_swept i k b (traits_at p i).names t s)
 
   pub sweep_swept : All Good from → (i : ℕ) → SweptTo from (sweep p from i)
   unfolding sweep
@@ -86,15 +86,15 @@ all_counted (e ∷ es) good =
 
 pub record Reached (e : Entry) : Type 0 where
   pub claim : Ranges
-  pub is : e.claim ≡ some claim
+  pub is : e.claim ≡ Some claim
 
 pub record Gives (es es' : List Entry) : Type 0 where
   pub ready : Ready es'
   pub falls : rooms es' < rooms es
 
 abbrev pub GivenIf : List Entry → Option (List Entry) → Type 0
-GivenIf es none = All Reached es
-GivenIf es (some es') = Gives es es'
+GivenIf es None = All Reached es
+GivenIf es (Some es') = Gives es es'
 
 pub given_falls : (es : List Entry) → Ready es → GivenIf es (given es)
 unfolding given rooms
@@ -104,23 +104,23 @@ given_falls (e ∷ es) r =
   where
     by_claim : (claim : Option Ranges) → e.claim ≡ claim → (later : Option (List Entry)) → GivenIf es later
         → GivenIf (e ∷ es) (given_or e es claim later)
-    by_claim none is later rest =
+    by_claim None is later rest =
         let full : room e ≡ 73 = ap (room_if e) is in
         record {
           ready = record {
-            good = (fresh_good e.index e.indirect (some unknown) (λ _. refl) bounded_unknown, r.good.1);
-            clear = (fresh_clear e.index e.indirect (some unknown), r.clear.1);
+            good = (fresh_good e.index e.indirect (Some unknown) (λ _. refl) bounded_unknown, r.good.1);
+            clear = (fresh_clear e.index e.indirect (Some unknown), r.clear.1);
           };
-          falls = omega (arith, reached_room (fresh e.index e.indirect (some unknown)));
+          falls = omega (arith, reached_room (fresh e.index e.indirect (Some unknown)));
         }
-    by_claim (some claim) is none rest = (record { claim = claim; is = is }, rest)
-    by_claim (some claim) is (some es') rest = record {
+    by_claim (Some claim) is None rest = (record { claim = claim; is = is }, rest)
+    by_claim (Some claim) is (Some es') rest = record {
       ready = record { good = (r.good.0, rest.ready.good); clear = (r.clear.0, rest.ready.clear) };
       falls = omega (arith, rest.falls);
     }
 
 -- where all are reached, none is left to be given anything
-pub none_given : (es : List Entry) → All Reached es → given es ≡ none
+pub none_given : (es : List Entry) → All Reached es → given es ≡ None
 unfolding given
 none_given [] all = refl
 none_given (e ∷ es) all = rw (all.0.is, none_given es all.1)
@@ -136,11 +136,11 @@ pub record Ended (p : Program) (es : List Entry) : Type 0 where
 
 -- the entries that the next sweep begins with; none where there is no next
 unfoldable pub following : Program → List Entry → Option (List Entry)
-following p es = elim (swept p es).changed [ true ↦ some (map counted (swept p es).entries) | false ↦ given es ]
+following p es = elim (swept p es).changed [ true ↦ Some (map counted (swept p es).entries) | false ↦ given es ]
 
 abbrev pub gone_on : Program → ℕ → ℕ → List Entry → Option (List Entry) → WorkedOut
-gone_on p most made es none = record { entries = es; sweeps = suc made }
-gone_on p most made es (some es') = sweeping p most (suc made) es'
+gone_on p most made es None = record { entries = es; sweeps = suc made }
+gone_on p most made es (Some es') = sweeping p most (suc made) es'
 
 pub sweeping_goes_on : (p : Program) (most made : ℕ) (es : List Entry)
     → sweeping p (suc most) made es ≡ gone_on p most made es (following p es)
@@ -149,8 +149,8 @@ sweeping_goes_on p most made es = by_change (swept p es).changed refl
   where
     by_given : (next : Option (List Entry)) → (swept p es).changed ≡ false → given es ≡ next
         → sweeping p (suc most) made es ≡ gone_on p most made es (following p es)
-    by_given none e q = rw (e, q, sweeping, following)
-    by_given (some es') e q = rw (e, q, sweeping, following)
+    by_given None e q = rw (e, q, sweeping, following)
+    by_given (Some es') e q = rw (e, q, sweeping, following)
 
     by_change : (changed : Bool) → (swept p es).changed ≡ changed
         → sweeping p (suc most) made es ≡ gone_on p most made es (following p es)
@@ -158,8 +158,8 @@ sweeping_goes_on p most made es = by_change (swept p es).changed refl
     by_change false e = by_given (given es) e refl
 
 abbrev pub Follows : Program → List Entry → Option (List Entry) → Type 0
-Follows p es none = Ended p es
-Follows p es (some es') = Gives es es'
+Follows p es None = Ended p es
+Follows p es (Some es') = Gives es es'
 
 module _ (p : Program) (modest : ModestCode p) where
   -- what a sweep that changes something leaves
@@ -176,8 +176,8 @@ module _ (p : Program) (modest : ModestCode p) where
   follows es r = by_change (swept p es).changed refl
     where
       by_given : (next : Option (List Entry)) → (swept p es).changed ≡ false → GivenIf es next → Follows p es next
-      by_given none e all = record { good = r.good; clear = r.clear; unchanged = e; reached = all }
-      by_given (some es') e g = g
+      by_given None e all = record { good = r.good; clear = r.clear; unchanged = e; reached = all }
+      by_given (Some es') e g = g
 
       by_change : (changed : Bool) → (swept p es).changed ≡ changed → Follows p es (following p es)
       by_change true e = rw (e, following) (swept_falls es r e)
@@ -193,8 +193,8 @@ module _ (p : Program) (modest : ModestCode p) where
       by_next : (next : Option (List Entry)) → Follows p es next
           → ((es' : List Entry) → Gives es es' → Ended p (sweeping p most (suc made) es').entries)
           → Ended p (gone_on p most made es next).entries
-      by_next none end rest = end
-      by_next (some es') g rest = rest es' g
+      by_next None end rest = end
+      by_next (Some es') g rest = rest es' g
 
   -- and more sweeps would be none: allowing for more gives the same
   pub enough_is_enough : (most most' made : ℕ) (es : List Entry) → Ready es → rooms es < most → rooms es < most'
@@ -209,5 +209,5 @@ module _ (p : Program) (modest : ModestCode p) where
       by_next : (next : Option (List Entry)) → Follows p es next
           → ((es' : List Entry) → Gives es es' → sweeping p most (suc made) es' ≡ sweeping p most' (suc made) es')
           → gone_on p most made es next ≡ gone_on p most' made es next
-      by_next none end rest = refl
-      by_next (some es') g rest = rest es' g
+      by_next None end rest = refl
+      by_next (Some es') g rest = rest es' g

@@ -5,8 +5,8 @@ use Prim.Native.Nat.{ℕ, zero, suc, ◌+◌, ◌≤◌, ◌<◌}
 use mathlib.Core.Path.{◌≡◌, refl, sym, ap, ◌∙◌, subst}
 use mathlib.Core.Bool.{Bool, true, false, not, ◌||◌, or-false}
 use mathlib.Core.List.{List, [], ◌∷◌, map}
-use mathlib.Core.Option
-use mathlib.Core.Option.{Option, none, some, get_or, none-ne-some, some-injective}
+use Rattle.std.specs.Prelude.{option_map, unwrap_or, Option, None, Some}
+use Rattle.std.proofs.lemmas.Option.{none-some, same_Some}
 use native.Mathlib.Omega.{arith}
 use native.Mathlib.Decide.{ℕ_discrete}
 use lib.Dec.{eqb}
@@ -32,21 +32,21 @@ use Rattle.model.proofs.Claims.Still.{on_next, Covered, EdgesCovered, visit_stil
 
 -- ---- what the verifier finds in the finished targets
 
-targets_found : (es : List Entry) (i : ℕ) → target_at (map finished es) i ≡ Option.map finished (entry_at es i)
+targets_found : (es : List Entry) (i : ℕ) → target_at (map finished es) i ≡ option_map finished (entry_at es i)
 unfolding target_at entry_at
 targets_found [] i = refl
 targets_found (e ∷ es) i = by_index (eqb e.index i) refl (targets_found es i)
   where
-    by_index : (t : Bool) → eqb e.index i ≡ t → target_at (map finished es) i ≡ Option.map finished (entry_at es i)
-        → target_at (map finished (e ∷ es)) i ≡ Option.map finished (entry_at (e ∷ es) i)
+    by_index : (t : Bool) → eqb e.index i ≡ t → target_at (map finished es) i ≡ option_map finished (entry_at es i)
+        → target_at (map finished (e ∷ es)) i ≡ option_map finished (entry_at (e ∷ es) i)
     by_index true same rest = rw (same, target_at, entry_at)
     by_index false other rest = rw (other, target_at, entry_at) rest
 
 -- at an index both take the claim, or what is known along the edge to it
-same_known : (k : Option Ranges) (k' : Ranges) (o : Option Entry) → IfThere Reached o → (o ≡ none → k ≡ some k')
-    → claim_else k o ≡ some (claim_or k' (Option.map finished o))
-same_known k k' none r along = along refl
-same_known k k' (some e) r along = r.is ∙ ap (λ (c : Option Ranges). some (get_or c unknown)) (sym r.is)
+same_known : (k : Option Ranges) (k' : Ranges) (o : Option Entry) → IfThere Reached o → (o ≡ None → k ≡ Some k')
+    → claim_else k o ≡ Some (claim_or k' (option_map finished o))
+same_known k k' None r along = along refl
+same_known k k' (Some e) r along = r.is ∙ ap (λ (c : Option Ranges). Some (unwrap_or c unknown)) (sym r.is)
 
 -- an edge that would not widen a claim keeps it
 within_unknown : (k : Ranges) → Bounded k → lies_within k unknown ≡ true
@@ -56,11 +56,11 @@ within_unknown k b =
     (λ r r8. (omega (arith, get_or-replicate {A = ℕ} 8 r 0 0 r8), omega (arith, get_or-replicate {A = ℕ} 8 r top 0 r8, b.small r)))
 
 claim_kept : (k : Ranges) → Bounded k → (o : Option Entry) → IfThere Good o → IfThere Reached o → all_of o (covers k) ≡ true
-    → all_of (Option.map finished o) (λ t. lies_within k t.claim) ≡ true
-claim_kept k b none g r c = refl
-claim_kept k b (some e) g r c = by_kind e.indirect refl
+    → all_of (option_map finished o) (λ t. lies_within k t.claim) ≡ true
+claim_kept k b None g r c = refl
+claim_kept k b (Some e) g r c = by_kind e.indirect refl
   where
-    by_kind : (indirect : Bool) → e.indirect ≡ indirect → lies_within k (get_or e.claim unknown) ≡ true
+    by_kind : (indirect : Bool) → e.indirect ≡ indirect → lies_within k (unwrap_or e.claim unknown) ≡ true
     by_kind true is = rw (g.fixed is) (within_unknown k b)
     by_kind false is = rw r.is (rw (is, r.is) at c)
 
@@ -85,36 +85,36 @@ module _ (p : Program) (modest : ModestCode p) (es : List Entry) (end : Ended p 
     here_is = ap (λ (t : Table). claim_else (sweep p es i).known (entry_at t.entries i)) at_start
 
     -- where nothing is reached but as the verifier wants it, the sweep knows what the verifier knows
-    known_from : (k' : Ranges) → (entry_at es i ≡ none → (sweep p es i).known ≡ some k')
-        → here p es i ≡ some (claim_or k' (target_at (map finished es) i))
+    known_from : (k' : Ranges) → (entry_at es i ≡ None → (sweep p es i).known ≡ Some k')
+        → here p es i ≡ Some (claim_or k' (target_at (map finished es) i))
     known_from k' along =
         here_is ∙ same_known (sweep p es i).known k' (entry_at es i) (found Reached es end.reached i) along
-        ∙ ap (λ (o : Option Target). some (claim_or k' o)) (sym (targets_found es i))
+        ∙ ap (λ (o : Option Target). Some (claim_or k' o)) (sym (targets_found es i))
 
   -- where the sweep knows something and goes on, it knows what the verifier makes of it
-  step_known : (i : ℕ) (k : Ranges) → here p es i ≡ some k → (traits_at p i).falls ≡ true
-      → (sweep p es (suc i)).known ≡ some (on_next p i k)
+  step_known : (i : ℕ) (k : Ranges) → here p es i ≡ Some k → (traits_at p i).falls ≡ true
+      → (sweep p es (suc i)).known ≡ Some (on_next p i k)
   unfolding sweep visit
   step_known i k is falls =
       ap (λ (o : Option Ranges). (visit p i o (sweep p es i).table).known) is
       ∙ ap (λ (f : Bool). (along_next p i k f (along_taken p i k (traits_at p i).names (sweep p es i).table)).known) falls
 
-  zero_known : (sweep p es 0).known ≡ some starting_ranges
+  zero_known : (sweep p es 0).known ≡ Some starting_ranges
   unfolding sweep
   zero_known = refl
 
   -- a way in that is no target is a fall
-  fell : (i : ℕ) → is_reachable p' (suc i) ≡ true → entry_at es (suc i) ≡ none → (traits_at p i).falls ≡ true
+  fell : (i : ℕ) → is_reachable p' (suc i) ≡ true → entry_at es (suc i) ≡ None → (traits_at p i).falls ≡ true
   unfolding is_reachable
   fell i reachable free =
-      let no_target : target_at (map finished es) (suc i) ≡ none = targets_found es (suc i) ∙ rw free in
+      let no_target : target_at (map finished es) (suc i) ≡ None = targets_found es (suc i) ∙ rw free in
       sym (or-false (traits_at p i).falls) ∙ rw no_target at reachable
 
-  known_is : (i : ℕ) → i ≤ count → ReachableTo p' i → here p es i ≡ some (known_at p' i)
+  known_is : (i : ℕ) → i ≤ count → ReachableTo p' i → here p es i ≡ Some (known_at p' i)
   unfolding known_at
   known_is zero le passed = known_from zero le starting_ranges (λ _. zero_known)
   known_is (suc i) le passed =
-      let before : here p es i ≡ some (known_at p' i) = known_is i (omega arith) (λ j h. passed j (omega arith)) in
+      let before : here p es i ≡ Some (known_at p' i) = known_is i (omega arith) (λ j h. passed j (omega arith)) in
       known_from (suc i) le (on_next p i (known_at p' i))
       (λ free. step_known i (known_at p' i) before (fell i (passed (suc i) (omega arith)) free))
 
@@ -140,7 +140,7 @@ module _ (p : Program) (modest : ModestCode p) (es : List Entry) (end : Ended p 
   unfolding taken_kept next_kept
   kept i below passed = (along_taken_lem (traits_at p i).names edges.taken, along_next_lem (traits_at p i).falls edges.next)
     where
-      known : here p es i ≡ some (known_at p' i)
+      known : here p es i ≡ Some (known_at p' i)
       known = known_is i (omega arith) passed
 
       edges : EdgesCovered p es i (known_at p' i)
@@ -149,10 +149,10 @@ module _ (p : Program) (modest : ModestCode p) (es : List Entry) (end : Ended p 
       bounded : Bounded (known_at p' i)
       bounded = subst (IfThere Bounded) known (here_bounded i)
 
-      along_taken_lem : (to : Option ℕ) → ((o : ℕ) → to ≡ some o → Covered es o (taken_ranges p' i))
+      along_taken_lem : (to : Option ℕ) → ((o : ℕ) → to ≡ Some o → Covered es o (taken_ranges p' i))
           → all_of to (λ o. meets_claim p' o (taken_ranges p' i)) ≡ true
-      along_taken_lem none covered = refl
-      along_taken_lem (some to) covered = meets to (taken_ranges p' i) (bounded_taken (shape_at p i) bounded) (covered to refl)
+      along_taken_lem None covered = refl
+      along_taken_lem (Some to) covered = meets to (taken_ranges p' i) (bounded_taken (shape_at p i) bounded) (covered to refl)
 
       along_next_lem : (falls : Bool) → (falls ≡ true → Covered es (i + 1) (next_ranges p' i))
           → (not falls || meets_claim p' (i + 1) (next_ranges p' i)) ≡ true
@@ -164,19 +164,19 @@ module _ (p : Program) (modest : ModestCode p) (es : List Entry) (end : Ended p 
 
 -- the answer is no refusal by 11
 abbrev pub Unbroken : Option Fault → Type 0
-Unbroken answer = (f : Fault) → answer ≡ some f → f.number ≡ 11 → ⊥
+Unbroken answer = (f : Fault) → answer ≡ Some f → f.number ≡ 11 → ⊥
 
 pub other_rule : (number place : ℕ) (met : Bool) (later : Option Fault) → (number ≡ 11 → ⊥) → (met ≡ true → Unbroken later)
     → Unbroken (fault_unless met (fault number place) later)
 other_rule number place true later other rest = rest refl
 other_rule number place false later other rest = λ f e eleven.
-    other (ap (λ (x : Fault). x.number) (some-injective (fault number place) f e) ∙ eleven)
+    other (ap (λ (x : Fault). x.number) (same_Some (fault number place) f e) ∙ eleven)
 
 module _ (p : Program) (keeps : (i : ℕ) → i < length p.code → ReachableTo p i → (taken_kept p i ≡ true) × (next_kept p i ≡ true)) where
   unbroken_from : (i m : ℕ) → i + m ≡ length p.code → ((j : ℕ) → j < i → is_reachable p j ≡ true)
       → Unbroken (first_fault (each_from i m (at_index p)))
   unfolding first_fault each_from at_index before_next
-  unbroken_from i zero all passed = λ f e eleven. none-ne-some f e
+  unbroken_from i zero all passed = λ f e eleven. none-some f e
   unbroken_from i (suc m) all passed =
       other_rule 12 i (is_reachable p i) _ (omega arith)
       (λ reachable. other_rule 9 i (is_checked p i) _ (omega arith)

@@ -3,7 +3,8 @@
 use Prim.Native.Nat.{ℕ, zero, suc, ◌+◌, ◌≤◌, ◌<◌}
 use mathlib.Core.Path.{◌≡◌, refl, sym, ap, ◌∙◌}
 use mathlib.Core.Bool.{Bool, true, false, not, ◌||◌, true≢false, or-false}
-use mathlib.Core.Option.{Option, none, some, some-ne-none}
+use Rattle.std.specs.Prelude.{Option, None, Some}
+use Rattle.std.proofs.lemmas.Option.{none-some}
 use native.Mathlib.Omega.{arith}
 use lib.Dec.{ltb}
 use lib.ListN.{get_or}
@@ -120,7 +121,7 @@ module _ (e : Entry) (claim k : Ranges) where
           is_after r r8 (widened_full (count r) (range_of claim r) (range_of k r) grows (omega (arith, growth_most r r8)))
 
   -- the room falls: not at all for a register that has already grown in this sweep, by one for a register that has not
-  grow_room : room_if (grow e claim k) (some claim') ≤ room_if e (some claim)
+  grow_room : room_if (grow e claim k) (Some claim') ≤ room_if e (Some claim)
   grow_room = sum_mono 8 (room_at (grow e claim k)) (room_at e) (λ r r8. omega (arith, growth_rises r r8))
 
   module _ (h : Held e claim) (b : Bounded k) where
@@ -142,7 +143,7 @@ module _ (e : Entry) (claim k : Ranges) where
         by_test true same = omega (arith, growth_stays r r8 same, few r r8)
         by_test false grows = omega (arith, growth_most r r8, has_room r r8 grows)
 
-    grow_falls : Clear e → lies_within k claim ≡ false → room_if (grow e claim k) (some claim') < room_if e (some claim)
+    grow_falls : Clear e → lies_within k claim ≡ false → room_if (grow e claim k) (Some claim') < room_if e (Some claim)
     unfolding lies_within
     grow_falls clear outside =
         let w = fails_below 8 inside outside in
@@ -166,20 +167,20 @@ reached_widens e k g b outside = by_claim e.claim g.held (neither e.indirect _ o
 
     by_claim : (claim : Option Ranges) → IfThere (Held e) claim → any_of claim (lies_within k) ≡ false
         → Widens e (room_if e claim) (reached e claim k)
-    by_claim none h out =
-        let less = reached_room (fresh e.index e.indirect (some k)) in
+    by_claim None h out =
+        let less = reached_room (fresh e.index e.indirect (Some k)) in
         record {
-          good = fresh_good e.index e.indirect (some k) (λ is. inner is) b;
+          good = fresh_good e.index e.indirect (Some k) (λ is. inner is) b;
           lighter = omega arith;
           falls = λ clear. less;
         }
-    by_claim (some claim) h out = record {
+    by_claim (Some claim) h out = record {
       good = record {
         fixed = λ is. inner is;
         grown8 = g.grown8;
         grows8 = length-tabulate 0 8 _;
         few = grow_few e claim k h b g.few;
-        untouched = λ none_there. absurd (some-ne-none _ none_there);
+        untouched = λ none_there. absurd (none-some _ (sym none_there));
         held = grow_held e claim k h b;
       };
       lighter = grow_room e claim k;

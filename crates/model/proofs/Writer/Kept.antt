@@ -4,7 +4,7 @@ use Prim.Native.Nat.{ℕ, suc, ◌≤◌, ◌<◌}
 use mathlib.Core.Path.{◌≡◌}
 use mathlib.Core.Logic.Iff
 use mathlib.Core.Logic.{◌↔◌}
-use mathlib.Core.Option.{Option, none}
+use Rattle.std.specs.Prelude.{Option, None}
 use native.Mathlib.Omega.{arith}
 use lib.ListN.{length}
 use Rattle.model.specs.declared.Instruction.{Instruction}
@@ -33,7 +33,7 @@ pub record TablesKept (t : Tables) : Type 0 where
 pub count_reflects : (most n : ℕ) → Reflects (is_count most n) ((1 ≤ n) × (n ≤ most))
 count_reflects most n = and_reflects (le_reflects 1 n) (le_reflects n most)
 
-pub owed_iff : (t : Tables) → (first_fault (tables_owed t) ≡ none) ↔ TablesKept t
+pub owed_iff : (t : Tables) → (first_fault (tables_owed t) ≡ None) ↔ TablesKept t
 unfolding tables_owed
 owed_iff t =
     Iff.trans (none_iff_met (tables_owed t)) (

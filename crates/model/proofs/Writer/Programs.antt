@@ -3,7 +3,7 @@ use Prim.Native.Nat.{ℕ, ◌<◌}
 use mathlib.Core.Path.{◌≡◌, refl, sym, ap, ◌∙◌}
 use mathlib.Core.Bool.{Bool, true, false}
 use mathlib.Core.List.{List, map}
-use mathlib.Core.Option
+use Rattle.std.specs.Prelude.{unwrap_or}
 use native.Mathlib.Omega.{arith}
 use borrow.Author.Tests.{eqb-true, eqb-false}
 use lib.Dec.{eqb}
@@ -36,7 +36,7 @@ same_kind a b few few' same = by_kind (eqb a 1) refl
 
 module _ (t u : Tables) (are : AreTables t) (are' : AreTables u) (kept : TablesKept t) (kept' : TablesKept u) where
   same_row : (i : ℕ) → i < length t.instructions → i < length u.instructions
-      → Option.get_or (decoded (instruction_row_at t i)) Halt ≡ Option.get_or (decoded (instruction_row_at u i)) Halt
+      → unwrap_or (decoded (instruction_row_at t i)) Halt ≡ unwrap_or (decoded (instruction_row_at u i)) Halt
       → instruction_row_at t i ≡ instruction_row_at u i
   same_row i below below' same =
       let x = kept.rules.each_instruction i below in
@@ -60,7 +60,7 @@ module _ (t u : Tables) (are : AreTables t) (are' : AreTables u) (kept : TablesK
   unfolding program_from
   same_tables same =
       let instructions =
-      map_injective (λ (x : InstructionRow). Option.get_or (decoded x) Halt) no_instruction t.instructions u.instructions
+      map_injective (λ (x : InstructionRow). unwrap_or (decoded x) Halt) no_instruction t.instructions u.instructions
       (ap (λ (p : Program). p.code) same) same_row in
       let targets =
       map_injective target_of no_target t.targets u.targets (ap (λ (p : Program). p.targets) same) same_target in

@@ -4,7 +4,7 @@ use Prim.Native.Nat.{ℕ, ◌+◌, ◌*◌, ◌<◌}
 use mathlib.Core.Path.{◌≡◌, refl, sym, ap}
 use mathlib.Core.Bool.{Bool, true, false}
 use mathlib.Core.List.{List}
-use mathlib.Core.Option.{get_or}
+use Rattle.std.specs.Prelude.{unwrap_or}
 use native.Mathlib.Omega.{arith}
 use borrow.Author.Tests.{ltb-true, ltb-false}
 use lib.Dec.{ltb}
@@ -50,7 +50,7 @@ module _ (file : List ℕ) where
   unfolding program_of program_from tables_in instruction_in target_in
   program_read =
       let code =
-      map-tabulate (λ (x : InstructionRow). get_or (decoded x) Halt) (row_in (code_in file)) 0 (instruction_count (code_in file)) in
+      map-tabulate (λ (x : InstructionRow). unwrap_or (decoded x) Halt) (row_in (code_in file)) 0 (instruction_count (code_in file)) in
       let targets = map-tabulate target_of (target_row_in (targets_in file)) 0 (target_count (targets_in file)) in
       sym (λ i. record { layout = layout_in file; code = code i; targets = targets i })
 

@@ -4,7 +4,7 @@ use Prim.Native.Nat.{ℕ, ◌≤◌}
 use mathlib.Core.Path.{◌≡◌, refl, sym, ap, ◌∙◌}
 use mathlib.Core.Logic.{◌⊎◌, inl, inr}
 use mathlib.Core.List.{List, ◌++◌}
-use mathlib.Core.Option.{Option, none, some}
+use Rattle.std.specs.Prelude.{Option, None, Some}
 use native.Mathlib.Omega.{arith}
 use borrow.Author.Tests.{leb-true}
 use lib.ListN.{length, take, drop}
@@ -36,28 +36,28 @@ writable_numbered t buffer =
 -- what a report tells
 module _ (t : Tables) (buffer : List ℕ) where
   refusal_told : (f : Fault) → (write t buffer).report ≡ unwritten f
-      → (first_fault (writable t buffer) ≡ some f) × ((write t buffer).buffer ≡ buffer)
+      → (first_fault (writable t buffer) ≡ Some f) × ((write t buffer).buffer ≡ buffer)
   unfolding write
   refusal_told f is = by_fault (first_fault (writable t buffer)) is
     where
       by_fault : (o : Option Fault) → (written_unless t buffer o).report ≡ unwritten f
-          → (o ≡ some f) × ((written_unless t buffer o).buffer ≡ buffer)
-      by_fault none same = absurd (let impossible : ◌≡◌ {A = ℕ} 0 1 = cc in omega arith)
-      by_fault (some g) same = (cc, refl)
+          → (o ≡ Some f) × ((written_unless t buffer o).buffer ≡ buffer)
+      by_fault None same = absurd (let impossible : ◌≡◌ {A = ℕ} 0 1 = cc in omega arith)
+      by_fault (Some g) same = (cc, refl)
 
   length_told : (n : ℕ) → (write t buffer).report ≡ wrote n
-      → (first_fault (writable t buffer) ≡ none) × (length (file_of t) ≡ n)
+      → (first_fault (writable t buffer) ≡ None) × (length (file_of t) ≡ n)
       × ((write t buffer).buffer ≡ file_of t ++ drop (length (file_of t)) buffer)
   unfolding write
   length_told n is = by_fault (first_fault (writable t buffer)) is
     where
       by_fault : (o : Option Fault) → (written_unless t buffer o).report ≡ wrote n
-          → (o ≡ none) × (length (file_of t) ≡ n) × ((written_unless t buffer o).buffer ≡ file_of t ++ drop (length (file_of t)) buffer)
-      by_fault none same = (refl, cc, refl)
-      by_fault (some g) same = absurd (let impossible : ◌≡◌ {A = ℕ} 0 1 = cc in omega arith)
+          → (o ≡ None) × (length (file_of t) ≡ n) × ((written_unless t buffer o).buffer ≡ file_of t ++ drop (length (file_of t)) buffer)
+      by_fault None same = (refl, cc, refl)
+      by_fault (Some g) same = absurd (let impossible : ◌≡◌ {A = ℕ} 0 1 = cc in omega arith)
 
   -- a file that is written has room
-  has_room : first_fault (writable t buffer) ≡ none → length (file_of t) ≤ length buffer
+  has_room : first_fault (writable t buffer) ≡ None → length (file_of t) ≤ length buffer
   unfolding writable
   has_room met = leb-true _ _ ((none_iff_met _).0 ((append_fault (tables_owed t) _).0 met).1).0
 

@@ -3,7 +3,7 @@
 use Prim.Native.Nat.{ℕ, zero, suc, ◌<◌, min}
 use mathlib.Core.Path.{◌≡◌, refl, ap, subst, ◌∙◌}
 use mathlib.Core.Bool.{Bool}
-use mathlib.Core.Option.{Option, none, some, map}
+use Rattle.std.specs.Prelude.{Option, None, Some, option_map}
 use native.Mathlib.Omega.{arith}
 use borrow.Author.Tests.{ltb-true, ltb-false, eqb-true}
 use lib.Dec.{ltb, eqb}
@@ -51,9 +51,9 @@ test_numbered (suc (suc (suc w))) = tt
 
 -- what holds of it gives what holds of what is made of it
 mapped : {A B : Type 0} (P : A → Type 0) (Q : B → Type 0) (f : A → B) (o : Option A) → IfThere P o → ((x : A) → P x → Q (f x))
-    → IfThere Q (map f o)
-mapped P Q f none holds so = tt
-mapped P Q f (some x) holds so = so x holds
+    → IfThere Q (option_map f o)
+mapped P Q f None holds so = tt
+mapped P Q f (Some x) holds so = so x holds
 
 load_width_numbered : (w : ℕ) → IfThere (IsNumber load_width_number w) (load_width_of w)
 load_width_numbered w =
@@ -85,9 +85,9 @@ module _ (a b w imm : ℕ) where
 
   looked_up_tells : (op : ℕ) {A : Type 0} (number : A → ℕ) (make : A → Instruction) (o : Option A) → IfThere (IsNumber number w) o
       → ((v : A) → (a < 8) × (b < 8) → IsNumber number w v → Tells op (make v))
-      → IfThere (Tells op) (provided (has_a_b_w_imm a b) (map make o))
+      → IfThere (Tells op) (provided (has_a_b_w_imm a b) (option_map make o))
   looked_up_tells op number make o numbered tells =
-      row_tells op (map make o) both
+      row_tells op (option_map make o) both
       (λ used. mapped (IsNumber number w) (Tells op) make o numbered (λ v is. tells v used is))
 
   table_tells : NumberedRows Tells (rows a b w imm)
@@ -99,44 +99,44 @@ module _ (a b w imm : ℕ) where
       let only-a = and_reflects a-imm no-imm in
       let a-b = and_reflects (and_reflects both (eq_reflects w 0)) no-imm in
       let a-amount = and_reflects (and_reflects (and_reflects (lt_reflects a 8) (eq_reflects b 0)) (lt_reflects w 32)) no-imm in
-      row_tells 0 (some Halt) (and_reflects only-imm no-imm) (λ used. omega arith)
-      then row_tells 1 (some (Set a imm)) a-imm (λ used. omega arith)
-      then row_tells 2 (some (Copy a b)) a-b (λ used. omega arith)
-      then row_tells 3 (some (Add a b)) a-b (λ used. omega arith)
-      then row_tells 4 (some (Addi a (signed imm))) a-imm (λ used. omega (arith, wrap-signed imm))
-      then row_tells 5 (some (Sub a b)) a-b (λ used. omega arith)
-      then row_tells 6 (some (Andi a imm)) a-imm (λ used. omega arith)
-      then row_tells 7 (some (Guard a)) only-a (λ used. omega arith)
-      then row_tells 8 (some (Shr a w)) a-amount (λ used. omega arith)
-      then row_tells 9 (some (Sar a w)) a-amount (λ used. omega arith)
+      row_tells 0 (Some Halt) (and_reflects only-imm no-imm) (λ used. omega arith)
+      then row_tells 1 (Some (Set a imm)) a-imm (λ used. omega arith)
+      then row_tells 2 (Some (Copy a b)) a-b (λ used. omega arith)
+      then row_tells 3 (Some (Add a b)) a-b (λ used. omega arith)
+      then row_tells 4 (Some (Addi a (signed imm))) a-imm (λ used. omega (arith, wrap-signed imm))
+      then row_tells 5 (Some (Sub a b)) a-b (λ used. omega arith)
+      then row_tells 6 (Some (Andi a imm)) a-imm (λ used. omega arith)
+      then row_tells 7 (Some (Guard a)) only-a (λ used. omega arith)
+      then row_tells 8 (Some (Shr a w)) a-amount (λ used. omega arith)
+      then row_tells 9 (Some (Sar a w)) a-amount (λ used. omega arith)
       then looked_up_tells 10 load_width_number (λ v. Load a b v (signed imm)) (load_width_of w) (load_width_numbered w)
       (λ v used is. omega (arith, wrap-signed imm))
       then looked_up_tells 11 bytes_of (λ v. Store a b v (signed imm)) (width_of w) (width_numbered w)
       (λ v used is. omega (arith, wrap-signed imm))
-      then row_tells 12 (some (Jump imm)) only-imm (λ used. omega arith)
+      then row_tells 12 (Some (Jump imm)) only-imm (λ used. omega arith)
       then looked_up_tells 13 test_number (λ t. Branch a b t imm) (test_of w) (test_numbered w) (λ t used is. omega arith)
-      then row_tells 14 (some (Check a)) only-a (λ used. omega arith)
-      then row_tells 15 (some (Jumpr a)) only-a (λ used. omega arith)
+      then row_tells 14 (Some (Check a)) only-a (λ used. omega arith)
+      then row_tells 15 (Some (Jumpr a)) only-a (λ used. omega arith)
       then no_more
 
 -- ---- what decodes
 
-decode_tells : (op a b w imm : ℕ) (i : Instruction) → decode op a b w imm ≡ some i → Tells a b w imm op i
+decode_tells : (op a b w imm : ℕ) (i : Instruction) → decode op a b w imm ≡ Some i → Tells a b w imm op i
 unfolding decode
 decode_tells op a b w imm i is = subst (IfThere (Tells a b w imm op)) is (row_at (table_tells a b w imm) op)
 
 -- a row that decodes is of bytes, and so one that is not of bytes does not decode
-pub decoded_bytes : (op a b w imm : ℕ) (i : Instruction) → decode op a b w imm ≡ some i
+pub decoded_bytes : (op a b w imm : ℕ) (i : Instruction) → decode op a b w imm ≡ Some i
     → (op < 256) × (a < 256) × (b < 256) × (w < 256)
 decoded_bytes op a b w imm i is =
     let told = decode_tells op a b w imm i is in (told.op_byte, told.a_byte, told.b_byte, told.w_byte)
 
-pub not_bytes : (op a b w imm : ℕ) → ((op < 256) × (a < 256) × (b < 256) × (w < 256) → ⊥) → decode op a b w imm ≡ none
+pub not_bytes : (op a b w imm : ℕ) → ((op < 256) × (a < 256) × (b < 256) × (w < 256) → ⊥) → decode op a b w imm ≡ None
 not_bytes op a b w imm past = by_decoded (decode op a b w imm) refl
   where
-    by_decoded : (o : Option Instruction) → decode op a b w imm ≡ o → o ≡ none
-    by_decoded none is = refl
-    by_decoded (some i) is = absurd (past (decoded_bytes op a b w imm i is))
+    by_decoded : (o : Option Instruction) → decode op a b w imm ≡ o → o ≡ None
+    by_decoded None is = refl
+    by_decoded (Some i) is = absurd (past (decoded_bytes op a b w imm i is))
 
 -- rows of the same numbers are the same
 pub same_row : (x y : InstructionRow) → x.op ≡ y.op → x.a ≡ y.a → x.b ≡ y.b → x.w ≡ y.w → x.imm ≡ y.imm → x ≡ y
@@ -144,7 +144,7 @@ same_row x y op a b w imm =
     let same : instruction_row x.op x.a x.b x.w x.imm ≡ instruction_row y.op y.a y.b y.w y.imm = cc in
     same
 
-row_of_decoded : (x : InstructionRow) (i : Instruction) → x.imm < modulus → decoded x ≡ some i → encoded i ≡ x
+row_of_decoded : (x : InstructionRow) (i : Instruction) → x.imm < modulus → decoded x ≡ Some i → encoded i ≡ x
 row_of_decoded x i word is =
     let told = decode_tells x.op x.a x.b x.w x.imm i is in
     same_row (encoded i) x told.op_is told.a_is told.b_is told.w_is (told.imm_is word)

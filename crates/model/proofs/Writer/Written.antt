@@ -2,7 +2,7 @@
 use Prim.Native.Nat.{ℕ}
 use mathlib.Core.Path.{◌≡◌, refl, sym, ap, ◌∙◌}
 use mathlib.Core.List.{List}
-use mathlib.Core.Option.{Option, none, some}
+use Rattle.std.specs.Prelude.{Option, None, Some}
 use lib.ListN.{length}
 use Rattle.model.specs.Obligations.{Fault, first_fault}
 use Rattle.model.specs.Answers.{accepted}
@@ -18,7 +18,7 @@ use Rattle.model.proofs.Writer.Read.{rows_counted, targets_counted, program_read
 use Rattle.model.proofs.Writer.Files.{file_iff, file_bytes}
 use Rattle.model.proofs.Writer.Programs.{same_tables}
 
-module _ (t : Tables) (are : AreTables t) (owed : first_fault (tables_owed t) ≡ none) where
+module _ (t : Tables) (are : AreTables t) (owed : first_fault (tables_owed t) ≡ None) where
   pub some_file : AreBytes (file_of t) × FileKept (file_of t) × (tables_in (file_of t) ≡ t) × (program_in (file_of t) ≡ program_from t)
   some_file =
       let kept = (owed_iff t).0 owed in
@@ -42,11 +42,11 @@ module _ (t : Tables) (are : AreTables t) (owed : first_fault (tables_owed t) �
       same_answer : (found : Option Fault)
           → instruction_count (code_in (file_of t)) ≡ length t.instructions → target_count (targets_in (file_of t)) ≡ length t.targets
           → concluded (file_of t) found ≡ concluded_of t found
-      same_answer none n k = λ i. accepted (n i) (k i)
-      same_answer (some f) n k = refl
+      same_answer None n k = λ i. accepted (n i) (k i)
+      same_answer (Some f) n k = refl
 
 module _ (file : List ℕ) (bytes : AreBytes file) (kept : FileKept file) where
-  pub one_file : AreTables (tables_in file) × (first_fault (tables_owed (tables_in file)) ≡ none) × (file_of (tables_in file) ≡ file)
+  pub one_file : AreTables (tables_in file) × (first_fault (tables_owed (tables_in file)) ≡ None) × (file_of (tables_in file) ≡ file)
   one_file =
       let tables = tables_kept file kept in
       let are = tables_words file bytes tables in

@@ -1,12 +1,6 @@
--- `claims::sweep::begin` meets its contract. The loop's invariant: the rows so far are begun. The measure is what is left of the targets.
--- Assumes nothing.
-use Prim.Native.Nat.{◌-◌}
-use Rattle.claims.specs.Tables.{rows}
+-- `claims::sweep::begin` meets its contract. The loop's invariant: the rows so far are begun. Assumes nothing.
 use Rattle.claims.proofs.Filling.{Filled, Begun}
 use Rattle.claims.proofs.sweep.begin.Given as goal
 
 abbrev pub invariant-loop-j : goal.invariant-loop-j
-invariant-loop-j l = Filled (Begun l.targets) (rows l.initial.reached l.initial.lows l.initial.highs l.initial.grown l.initial.grows) (rows l.reached l.lows l.highs l.grown l.grows) l.j
-
-abbrev pub decreases-loop-j : goal.decreases-loop-j
-decreases-loop-j l = l.k - l.j
+invariant-loop-j l = Filled (Begun l.targets) l.initial.rows l.rows l.j

@@ -1,13 +1,13 @@
 -- `claims::sweep::sweep_all` meets its contract. The loop's invariant: the entries are those that the definition comes to. The measure is
 -- the room that they have left. Assumes nothing.
-use Rattle.model.specs.File.{program_of}
-use Rattle.claims.specs.Tables.{rows, Whole}
-use Rattle.claims.proofs.Going.{Standing, left}
+use Rattle.reader.specs.Readings.{program}
+use Rattle.model.proofs.Claims.Tables.{rooms}
+use Rattle.claims.specs.Tables.{entries_in}
+use Rattle.claims.proofs.Going.{Going}
 use Rattle.claims.proofs.sweep.sweep_all.Given as goal
 
-abbrev pub invariant-loop-going : goal.invariant-loop-going
-invariant-loop-going l = Whole (rows l.reached l.lows l.highs l.grown l.grows)
-    × Standing (program_of l.layout l.code l.targets) l.targets l.k (rows l.reached l.lows l.highs l.grown l.grows) l.going
+abbrev pub invariant-sweeps : goal.invariant-sweeps
+invariant-sweeps l = Going (program l.module) (entries_in l.module.targets.now l.rows)
 
-abbrev pub decreases-loop-going : goal.decreases-loop-going
-decreases-loop-going l = left l.targets l.k (rows l.reached l.lows l.highs l.grown l.grows) l.going
+abbrev pub decreases-sweeps : goal.decreases-sweeps
+decreases-sweeps l = rooms (entries_in l.module.targets.now l.rows)

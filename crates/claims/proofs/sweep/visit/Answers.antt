@@ -1,41 +1,26 @@
 -- `claims::sweep::visit` meets its contract: the edge that is taken, then the one to the next index. Assumes nothing.
-use Prim.Native.Nat.{◌+◌}
-use mathlib.Core.Path.{ap, ◌∙◌}
-use mathlib.Core.Option.{some}
-use native.Mathlib.Omega.{arith}
-use Rattle.model.specs.declared.Range.{Range}
-use Rattle.model.specs.Instructions.{shape, traits, after_next}
-use Rattle.claims.proofs.Visiting.{named_below, visit_stops, visit_goes_on}
+use Rattle.std.specs.Prelude.{Some}
+use Rattle.std.proofs.Common.{◌+◌}
+use Rattle.model.specs.Instructions.{shape, traits}
+use Rattle.claims.proofs.Arriving.{named_below}
+use Rattle.claims.proofs.Visiting.{visit_stops, visit_goes_on}
 use Rattle.claims.proofs.sweep.visit.Goals as goal
 
-pub arrive-taken-requires : goal.arrive-taken-requires
-arrive-taken-requires c = (named_below c.args.targets.now c.args.k (traits (shape c.args.instruction)).names _ c.target_named-named.ensures c.requires.1, c.requires.2)
+pub arrive-changed-requires : goal.arrive-changed-requires
+arrive-changed-requires c = named_below _ _ (traits (shape c.args.instruction)).names c.target_named-named.ensures
 
 pub returns-then-not-falls : goal.returns-then-not-falls
-returns-then-not-falls c = (
-  c.arrive-taken.ensures.0,
-  λ p is_x is_region rises.
-      visit_stops p c.args.i is_x c.args.known _ c.after_taken.ensures
-      (c.arrive-taken.ensures.1 _ (traits (shape c.args.instruction)).names rises c.target_named-named.ensures)
-      c.falls.ensures c.if-not-falls.true,
-)
+returns-then-not-falls c p is_x is_region rises =
+    visit_stops p c.args.i is_x c.args.known _ c.after_taken-taken.ensures
+    (c.arrive-changed.ensures (traits (shape c.args.instruction)).names rises c.target_named-named.ensures)
+    c.falls.ensures c.if-not-falls.true
 
-pub overflow_add-i : goal.overflow_add-i
-overflow_add-i c = omega (arith, c.requires.0)
-
-pub overflow_cast-i : goal.overflow_cast-i
-overflow_cast-i c = omega (arith, c.requires.0)
-
-pub arrive-both-requires : goal.arrive-both-requires
-arrive-both-requires c = (named_below c.args.targets.now c.args.k (some (c.args.i + 1)) _ c.find-there.ensures c.requires.1, c.arrive-taken.ensures.0)
+pub arrive-requires : goal.arrive-requires
+arrive-requires c = rw c.arrive-changed.auto.rows (named_below _ _ (Some (c.args.i + 1)) c.find-there.ensures)
 
 pub returns : goal.returns
-returns c = (
-  c.arrive-both.ensures.0,
-  λ p is_x is_region rises.
-      visit_goes_on p c.args.i is_x c.args.known _ c.after_taken.ensures
-      (c.arrive-taken.ensures.1 _ (traits (shape c.args.instruction)).names rises c.target_named-named.ensures)
-      c.falls.ensures c.if-not-falls.false
-      (c.after_next-next.ensures ∙ ap (λ (r : Range). after_next r (shape c.args.instruction) c.args.known) is_region)
-      (c.arrive-both.ensures.1 _ (some (c.args.i + 1)) rises c.find-there.ensures),
-)
+returns c p is_x is_region rises =
+    visit_goes_on p c.args.i is_x c.args.known _ c.after_taken-taken.ensures
+    (c.arrive-changed.ensures (traits (shape c.args.instruction)).names rises c.target_named-named.ensures)
+    c.falls.ensures c.if-not-falls.false (rw is_region at c.after_next-next.ensures)
+    (c.arrive.ensures (Some (c.args.i + 1)) (rw c.arrive-changed.auto.rows rises) (rw c.arrive-changed.auto.rows c.find-there.ensures))

@@ -1,12 +1,13 @@
 -- `machine::access::in_region` meets its contract: by the law of distances. Assumes nothing.
+use Rattle.std.proofs.Math.Bool.{Bool-set}
 use native.Mathlib.Omega.{arith}
-use Rattle.model.proofs.Values.{least_size}
+use Rattle.machine.proofs.Modules.{by_layout, bounds}
 use Rattle.machine.proofs.Reaching.{region_by_distance}
 use Rattle.machine.proofs.access.in_region.Goals as goal
 
 pub overflow_sub-most : goal.overflow_sub-most
-overflow_sub-most c = omega (arith, c.bytes_of.ensures.1, least_size c.requires)
+overflow_sub-most c = omega (arith, c.from.ensures.1, (bounds c.args.m.now).least)
 
 pub returns : goal.returns
-returns c = rw (c.difference-distance.ensures, c.bytes_of.ensures.0)
-    (region_by_distance c.requires _ c.ranges.address.fits c.args.width)
+returns c = rw (c.difference-distance.ensures, c.from.ensures.0)
+    (by_layout c.args.m.now (Bool-set _ _) (λ kept. region_by_distance kept _ c.ranges.address.fits c.args.width))

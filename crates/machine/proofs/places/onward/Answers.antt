@@ -2,8 +2,8 @@
 use Rattle.machine.proofs.Going.{goes_onward, strays_onward}
 use Rattle.machine.proofs.places.onward.Goals as goal
 
-pub returns-then-pc-n : goal.returns-then-pc-n
-returns-then-pc-n c = goes_onward _ _ c.if-pc-n.true
+pub returns-then-pc-last : goal.returns-then-pc-last
+returns-then-pc-last c = goes_onward c.args.m.now _ c.if-pc-last.true
 
-pub returns-else-pc-n : goal.returns-else-pc-n
-returns-else-pc-n c = strays_onward _ _ c.if-pc-n.false
+pub returns-else-pc-last : goal.returns-else-pc-last
+returns-else-pc-last c = strays_onward c.args.m.now _ c.if-pc-last.false

@@ -8,6 +8,6 @@ returns-then-code-at c = record { is = λ whole y e. absurd (omega arith); past 
 
 pub returns : goal.returns
 returns c = record {
-  is = λ there y e. c.assemble.ensures y (c.whole_encoding-e.ensures _ refl ∙ e);
+  is = λ there y e. c.assemble.ensures y (c.whole_encoding.ensures _ refl ∙ e);
   past = λ short. absurd (omega arith);
 }

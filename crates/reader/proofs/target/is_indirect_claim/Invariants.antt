@@ -1,5 +1,4 @@
 -- `reader::target::is_indirect_claim` meets its contract. The loop's invariant: every register so far passes. Assumes nothing.
-use Prim.Native.Nat.{◌-◌}
 use mathlib.Core.Bool.{true}
 use mathlib.Core.Path.{◌≡◌}
 use Rattle.model.specs.Quantifiers.{all_below}
@@ -8,6 +7,3 @@ use Rattle.reader.proofs.target.is_indirect_claim.Given as goal
 
 abbrev pub invariant-loop-r : goal.invariant-loop-r
 invariant-loop-r l = all_below l.r (anything_at l.lows l.highs) ≡ true
-
-abbrev pub decreases-loop-r : goal.decreases-loop-r
-decreases-loop-r l = 8 - l.r

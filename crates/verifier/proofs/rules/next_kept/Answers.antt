@@ -1,13 +1,18 @@
 -- `verifier::rules::next_kept` meets its contract: by whether the instruction goes on, and the claim of the target there, if one is.
 -- Assumes nothing.
-use Rattle.verifier.proofs.ByRule.{goes_nowhere, no_next_claim, next_claim}
+use mathlib.Core.Path.{ap, ◌∙◌}
+use mathlib.Core.Bool.{not}
+use Rattle.std.proofs.Common.{rules}
+use Rattle.reader.specs.Readings.{program}
+use Rattle.verifier.proofs.ByRule.{kept_or_none, next_is}
 use Rattle.verifier.proofs.rules.next_kept.Goals as goal
 
 pub returns-then-not-falls : goal.returns-then-not-falls
-returns-then-not-falls c p i is_falls is_next is_there = goes_nowhere p i is_falls is_next _ _ is_there c.if-not-falls.true
+returns-then-not-falls c = λ i is_falls is_next is_there.
+    ap not c.if-not-falls.true
+    ∙ (rw c.if-not-falls.true at (next_is (program c.args.module.now) i is_falls is_next c.args.module.now.targets.now c.args.there is_there))
 
-pub returns-in-At : goal.returns-in-At
-returns-in-At c p i is_falls is_next is_there = next_claim p i is_falls is_next _ _ is_there c.if-not-falls.false c.in-At.is c.meets_claim.ensures
-
-pub returns-in-Nowhere : goal.returns-in-Nowhere
-returns-in-Nowhere c p i is_falls is_next is_there = no_next_claim p i is_falls is_next _ _ is_there c.if-not-falls.false c.in-Nowhere.is
+pub returns-else-not-falls : goal.returns-else-not-falls
+returns-else-not-falls c = λ i is_falls is_next is_there.
+    kept_or_none c.args.there _ c.is_none_or.ensures (λ j post. search rules)
+    ∙ (rw c.if-not-falls.false at (next_is (program c.args.module.now) i is_falls is_next c.args.module.now.targets.now c.args.there is_there))

@@ -1,16 +1,29 @@
 -- `verifier::verify::verify` meets its contract: the refusal of the reader, or what the check of the code finds. Assumes nothing.
-use Rattle.reader.proofs.Passes.{parsed_holds, parsed_refuses}
+use mathlib.Core.Path.{◌≡◌}
+use Rattle.std.proofs.Common.{rules}
+use Rattle.std.specs.Prelude.{Err}
+use Rattle.reader.specs.Findings.{fault_in}
+use Rattle.reader.proofs.Passes.{module_read, file_refused}
 use Rattle.verifier.proofs.Verdicts.{unreadable, code_accepted, code_refused}
 use Rattle.verifier.proofs.verify.verify.Goals as goal
 
-pub check_code-found-requires : goal.check_code-found-requires
-check_code-found-requires c = rw (c.code_in.ensures.bytes, c.targets_in.ensures.bytes) (parsed_holds _ _ _ c.read-parsed.ensures _ c.in-Module.is).loaded
+pub returns-in_err-module : goal.returns-in_err-module
+returns-in_err-module c =
+    let same : c.from_residual.result ≡ Err c.in_err-module.field-0.0 = search rules in
+    rw same (unreadable _ _ (file_refused _ _ _ c.read.ensures.report _ (c.in_err-module.was)))
 
-pub returns-in-Met : goal.returns-in-Met
-returns-in-Met c = code_accepted _ (parsed_holds _ _ _ c.read-parsed.ensures _ c.in-Module.is) _ c.code_in.ensures.bytes c.targets_in.ensures.bytes c.check_code-found.ensures c.in-Met.is
+pub returns-in_err-check_code : goal.returns-in_err-check_code
+unfolding fault_in
+returns-in_err-check_code c =
+    let parts = c.in_ok-module.ensures.parts in
+    let same : c.from_residual-in_err-check_code.result ≡ Err c.in_err-check_code.field-0.0 = search rules in
+    rw same
+    (code_refused _ c.in_ok-module.module (module_read _ _ _ c.read.ensures.report _ (c.in_ok-module.was)) parts.code.bytes parts.targets.bytes _
+    c.in_err-check_code.ensures)
 
-pub returns-in-Unmet : goal.returns-in-Unmet
-returns-in-Unmet c = code_refused _ (parsed_holds _ _ _ c.read-parsed.ensures _ c.in-Module.is) _ c.code_in.ensures.bytes c.targets_in.ensures.bytes c.check_code-found.ensures _ c.in-Unmet.is
-
-pub returns-in-Refused : goal.returns-in-Refused
-returns-in-Refused c = unreadable _ _ (parsed_refuses _ _ _ c.read-parsed.ensures _ c.in-Refused.is)
+pub returns : goal.returns
+unfolding fault_in
+returns c =
+    let parts = c.in_ok-module.ensures.parts in
+    code_accepted _ c.in_ok-module.module (module_read _ _ _ c.read.ensures.report _ (c.in_ok-module.was)) parts.code.bytes parts.targets.bytes
+    c.in_ok-check_code.ensures

@@ -1,15 +1,9 @@
--- `writer::fill::write_rows` meets its contract. The loop's invariant: the rows so far are stored. Assumes nothing.
-use Prim.Native.Nat.{◌-◌, ◌≤◌}
+-- `writer::fill::write_rows`. The loop's invariant: the rows so far are stored. Assumes nothing.
 use mathlib.Core.Path.{◌≡◌}
-use mathlib.Core.List.{map, flat_map}
-use lib.ListN.{length, take}
+use mathlib.Core.List.{flat_map}
+use lib.ListN.{take}
 use lib.Seq.{sets}
-use Rattle.model.specs.Writer.{row_bytes}
-use Rattle.writer.specs.Rows.{row_of}
 use Rattle.writer.proofs.fill.write_rows.Given as goal
 
 abbrev pub invariant-loop-i : goal.invariant-loop-i
-invariant-loop-i l = (l.i ≤ length l.instructions) × (l.buffer ≡ sets l.initial.buffer l.at (flat_map row_bytes (take l.i (map row_of l.instructions))))
-
-abbrev pub decreases-loop-i : goal.decreases-loop-i
-decreases-loop-i l = length l.instructions - l.i
+invariant-loop-i g l = l.buffer ≡ sets l.initial.buffer l.at (flat_map g.R.Row.bytes (take l.i l.rows))

@@ -1,0 +1,48 @@
+// The two implementations, asked in one way. An enum and no trait: a test is a closure that asks either, and a closure is not generic.
+// What a side is asked for, it has a function for; a file, a start and a memory are what either takes.
+use super::answer::{Ran, Start, Verdict};
+use super::{ours, theirs};
+
+#[derive(Clone, Copy)]
+pub enum Side {
+    Ours,
+    Theirs,
+}
+
+impl Side {
+    // Whether it holds of both.
+    pub fn both<F: Fn(Side) -> bool>(holds: F) -> bool
+        requires { F.IsAlwaysCallable holds }
+    {
+        holds(Side::Ours) && holds(Side::Theirs)
+    }
+
+    pub fn verify(self, file: &[u8]) -> Verdict {
+        match self {
+            Side::Ours => ours::verify(file),
+            Side::Theirs => theirs::verify(file),
+        }
+    }
+
+    pub fn work_out(self, file: &mut [u8]) -> Verdict {
+        match self {
+            Side::Ours => ours::work_out(file),
+            Side::Theirs => theirs::work_out(file),
+        }
+    }
+
+    pub fn run(self, file: &[u8], start: &Start, memory: &mut [u8]) -> Ran {
+        match self {
+            Side::Ours => ours::run(file, start, memory),
+            Side::Theirs => theirs::run(file, start, memory),
+        }
+    }
+
+    // A run of one step, as the budget says. The reference has no step by itself.
+    pub fn step(self, file: &[u8], start: &Start, memory: &mut [u8]) -> Ran {
+        match self {
+            Side::Ours => ours::step(file, start, memory),
+            Side::Theirs => theirs::run(file, start, memory),
+        }
+    }
+}

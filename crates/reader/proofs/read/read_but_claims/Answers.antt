@@ -1,5 +1,0 @@
--- `reader::read::read_but_claims` meets its contract: it is what `read_fields` answers. Assumes nothing.
-use Rattle.reader.proofs.read.read_but_claims.Goals as goal
-
-pub returns : goal.returns
-returns c = c.read_fields.ensures

@@ -1,9 +1,0 @@
--- `written::room::fill` is safe and ends: the index is at most the length, which stays, and the measure is what is left. Assumes nothing.
-use Rattle.std.proofs.Common.{◌≡◌, ◌-◌, ◌≤◌, length}
-use Rattle.written.proofs.room.fill.Given as goal
-
-abbrev pub invariant-loop-i : goal.invariant-loop-i
-invariant-loop-i l = (l.i ≤ length l.initial.buffer) × (length l.buffer ≡ length l.initial.buffer)
-
-abbrev pub decreases-loop-i : goal.decreases-loop-i
-decreases-loop-i l = length l.initial.buffer - l.i
