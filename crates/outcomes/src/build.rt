@@ -139,7 +139,7 @@ pub(crate) fn instruction_at(i: u32) -> usize
 
 impl<const N: usize> FileIn<N> {
     // The headers and the layout; instructions and doors are still to be written.
-    pub fn new(layout: Layout, instructions: u32, doors: u32) -> Self {
+    pub(crate) fn new(layout: Layout, instructions: u32, doors: u32) -> Self {
         let mut file = FileIn {
             bytes: [0; N],
             counts: Counts {
@@ -156,7 +156,7 @@ impl<const N: usize> FileIn<N> {
 
     // With these instructions and an open door and inner ones, which are still to be written: no field has as many as
     // 4096 here.
-    pub fn of(layout: Layout, code: &[Code], inner: usize) -> Self {
+    pub(crate) fn of(layout: Layout, code: &[Code], inner: usize) -> Self {
         let instructions = code.len().min(4096) as u32;
         let doors = inner.min(4096) as u32 + 1;
         let mut file = Self::new(layout, instructions, doors);
@@ -167,24 +167,24 @@ impl<const N: usize> FileIn<N> {
     }
 
     // The answer of a file that is to be refused so, or that is to be accepted.
-    pub fn verdict(&self, wrong: Option<Fault>) -> Verdict {
+    pub(crate) fn verdict(&self, wrong: Option<Fault>) -> Verdict {
         match wrong {
             Some(fault) => Err(fault),
             None => Ok(self.counts),
         }
     }
 
-    pub fn as_slice(&self) -> &[u8] {
+    pub(crate) fn as_slice(&self) -> &[u8] {
         &self.bytes[..self.length.min(N)]
     }
 
-    pub fn as_mut_slice(&mut self) -> &mut [u8] {
+    pub(crate) fn as_mut_slice(&mut self) -> &mut [u8] {
         let length = self.length.min(N);
         &mut self.bytes[..length]
     }
 
     // The lowest B bytes of a number.
-    pub fn put<const B: usize>(&mut self, at: usize, v: u32) {
+    pub(crate) fn put<const B: usize>(&mut self, at: usize, v: u32) {
         if let Some(rest) = self.bytes.get_mut(at..) {
             for (place, byte) in rest.iter_mut().take(B).zip(v.to_le_bytes()) {
                 *place = byte;
@@ -200,14 +200,14 @@ impl<const N: usize> FileIn<N> {
     }
 
     // Where door j begins.
-    pub fn door_at(&self, j: u32) -> usize
+    pub(crate) fn door_at(&self, j: u32) -> usize
         ensures { result < 1000000000000 }
     {
         instruction_at(self.counts.instructions) + 3 + j as usize * 68
     }
 
     // Where each field begins, and how long it is.
-    pub fn fields(&self) -> [(usize, u32); 3] {
+    pub(crate) fn fields(&self) -> [(usize, u32); 3] {
         let third = instruction_at(self.counts.instructions);
         [
             (0, 12),
@@ -223,13 +223,13 @@ impl<const N: usize> FileIn<N> {
         }
     }
 
-    pub fn put_layout(&mut self, layout: Layout) {
+    pub(crate) fn put_layout(&mut self, layout: Layout) {
         self.put::<4>(3, layout.base);
         self.put::<4>(7, layout.size);
         self.put::<4>(11, layout.guard);
     }
 
-    pub fn put_instruction(&mut self, i: u32, x: Ins) {
+    pub(crate) fn put_instruction(&mut self, i: u32, x: Ins) {
         let at = instruction_at(i);
         self.put::<1>(at, x.op as u32);
         self.put::<1>(at + 1, x.a);
@@ -245,7 +245,7 @@ impl<const N: usize> FileIn<N> {
         self.door_at(j) + 4 + r as usize * 8
     }
 
-    pub fn put_claim(&mut self, j: u32, r: u32, claimed: Span) {
+    pub(crate) fn put_claim(&mut self, j: u32, r: u32, claimed: Span) {
         let (lowest, highest) = claimed;
         let at = self.claim_at(j, r);
         self.put::<4>(at, lowest);
@@ -253,14 +253,14 @@ impl<const N: usize> FileIn<N> {
     }
 
     // Whether door j claims this of register r.
-    pub fn claims(&self, j: u32, r: u32, claimed: Span) -> bool {
+    pub(crate) fn claims(&self, j: u32, r: u32, claimed: Span) -> bool {
         let (lowest, highest) = claimed;
         let at = self.claim_at(j, r);
         self.has(at, lowest) && self.has(at + 4, highest)
     }
 
     // Door j, which claims anything of each register.
-    pub fn put_door(&mut self, j: u32, index: u32, kind: Kind) {
+    pub(crate) fn put_door(&mut self, j: u32, index: u32, kind: Kind) {
         let at = self.door_at(j);
         self.put::<2>(at, index);
         self.put::<1>(at + 2, kind as u32);

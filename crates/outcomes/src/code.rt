@@ -241,7 +241,7 @@ impl Maker {
     }
 
     // The instruction at i, after the one before it.
-    pub fn choose(&mut self, i: u32, before: Ins) -> Ins {
+    pub(crate) fn choose(&mut self, i: u32, before: Ins) -> Ins {
         if self.plan.misses(Miss::Any) {
             return self.unruly();
         }

@@ -141,7 +141,7 @@ impl Maker {
     }
 
     // Damages one file in three.
-    pub fn damage(&mut self, file: &mut File) {
+    pub(crate) fn damage(&mut self, file: &mut File) {
         if !self.random.one_in(3) {
             return;
         }

@@ -20,7 +20,7 @@ impl Maker {
     }
 
     // With numbers of its own, so that those of later modules are what they were.
-    pub fn garble(mut self, file: &mut File) {
+    pub(crate) fn garble(mut self, file: &mut File) {
         for (j, door) in (0..).zip(self.plan.doors) {
             for r in 0..8 {
                 self.garble_claim(file, j, door.kind, r);

@@ -28,7 +28,7 @@ impl Maker {
         }
     }
 
-    pub fn file(&mut self) -> File {
+    pub(crate) fn file(&mut self) -> File {
         let mut file = File::new(self.plan.layout, self.plan.n, self.plan.k);
         self.put_instructions(&mut file);
         self.put_doors(&mut file);

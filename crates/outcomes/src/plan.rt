@@ -110,14 +110,14 @@ impl Plan {
     }
 
     // What door stands at an index.
-    pub fn kind_at(&self, i: u32) -> Option<Kind> {
+    pub(crate) fn kind_at(&self, i: u32) -> Option<Kind> {
         let mut written = (0..self.k).zip(self.doors);
         let (_, door) = written.find(|(_, door)| door.index == i)?;
         Some(door.kind)
     }
 
     // Whether it comes close to breaking this rule.
-    pub fn misses(&self, rule: Miss) -> bool {
+    pub(crate) fn misses(&self, rule: Miss) -> bool {
         self.miss == Some(rule)
     }
 }
@@ -131,19 +131,19 @@ pub struct Maker {
 
 impl Maker {
     // With a plan that is drawn too.
-    pub fn new(mut random: Random) -> Maker {
+    pub(crate) fn new(mut random: Random) -> Maker {
         let plan = Plan::draw(&mut random);
         Maker { plan, random }
     }
 
     // The index of a door.
-    pub fn some_door(&mut self) -> u32 {
+    pub(crate) fn some_door(&mut self) -> u32 {
         let j = self.random.below(self.plan.k) as usize;
         self.plan.doors[j % 4].index
     }
 
     // An index, or one of the first two beyond them.
-    pub fn some_index(&mut self) -> u32 {
+    pub(crate) fn some_index(&mut self) -> u32 {
         self.random.below(self.plan.n.wrapping_add(2))
     }
 }

@@ -13,21 +13,21 @@ pub struct Score {
 
 impl Score {
     // One outcome more, and whether each of them gave it.
-    pub fn note(&mut self, ours: bool, theirs: bool) {
+    pub(crate) fn note(&mut self, ours: bool, theirs: bool) {
         self.asked = self.asked.wrapping_add(1);
         self.ours = self.ours.wrapping_add(u32::from(ours));
         self.theirs = self.theirs.wrapping_add(u32::from(theirs));
     }
 
     // One outcome more, for which each of them is asked.
-    pub fn ask<F: Fn(Side) -> bool>(&mut self, gives: F)
+    pub(crate) fn ask<F: Fn(Side) -> bool>(&mut self, gives: F)
         requires { F.IsAlwaysCallable gives }
     {
         self.note(gives(Side::Ours), gives(Side::Theirs));
     }
 
     // The file is to be judged so.
-    pub fn judge(&mut self, file: &[u8], verdict: Verdict) {
+    pub(crate) fn judge(&mut self, file: &[u8], verdict: Verdict) {
         self.ask(|side| side.verify(file) == verdict);
     }
 }

@@ -11,27 +11,27 @@ pub enum Side {
 
 impl Side {
     // Whether it holds of both.
-    pub fn both<F: Fn(Side) -> bool>(holds: F) -> bool
+    pub(crate) fn both<F: Fn(Side) -> bool>(holds: F) -> bool
         requires { F.IsAlwaysCallable holds }
     {
         holds(Side::Ours) && holds(Side::Theirs)
     }
 
-    pub fn verify(self, file: &[u8]) -> Verdict {
+    pub(crate) fn verify(self, file: &[u8]) -> Verdict {
         match self {
             Side::Ours => ours::verify(file),
             Side::Theirs => theirs::verify(file),
         }
     }
 
-    pub fn work_out(self, file: &mut [u8]) -> Verdict {
+    pub(crate) fn work_out(self, file: &mut [u8]) -> Verdict {
         match self {
             Side::Ours => ours::work_out(file),
             Side::Theirs => theirs::work_out(file),
         }
     }
 
-    pub fn run(self, file: &[u8], start: &Start, memory: &mut [u8]) -> Ran {
+    pub(crate) fn run(self, file: &[u8], start: &Start, memory: &mut [u8]) -> Ran {
         match self {
             Side::Ours => ours::run(file, start, memory),
             Side::Theirs => theirs::run(file, start, memory),
@@ -39,7 +39,7 @@ impl Side {
     }
 
     // A run of one step, as the budget says. The reference has no step by itself.
-    pub fn step(self, file: &[u8], start: &Start, memory: &mut [u8]) -> Ran {
+    pub(crate) fn step(self, file: &[u8], start: &Start, memory: &mut [u8]) -> Ran {
         match self {
             Side::Ours => ours::step(file, start, memory),
             Side::Theirs => theirs::run(file, start, memory),

@@ -44,7 +44,7 @@ impl Maker {
         (place & 0xffff) as u16
     }
 
-    pub fn start(&mut self) -> Start {
+    pub(crate) fn start(&mut self) -> Start {
         Start {
             registers: array::from_fn(|_| self.first_value()),
             place: self.first_place(),

@@ -25,7 +25,7 @@ pub struct State {
 
 impl State {
     // With the words of most of these steps.
-    pub fn of(registers: [u32; 3]) -> State {
+    pub(crate) fn of(registers: [u32; 3]) -> State {
         State {
             registers,
             words: KEPT,
@@ -61,7 +61,7 @@ pub struct Step {
 
 impl Step {
     // A step in most of these modules that goes on to the next index.
-    pub fn of(x: Ins, before: State, after: State) -> Step {
+    pub(crate) fn of(x: Ins, before: State, after: State) -> Step {
         Step {
             x,
             base: DB,
@@ -83,7 +83,7 @@ impl Step {
         file
     }
 
-    pub fn ask(&self, score: &mut Score) {
+    pub(crate) fn ask(&self, score: &mut Score) {
         let file = self.file();
         let before = self.before.memory();
         let after = self.after.memory();

@@ -59,7 +59,7 @@ pub struct Verdicts {
 }
 
 impl Verdicts {
-    pub fn count(&mut self, verdict: Verdict, alike: bool) {
+    pub(crate) fn count(&mut self, verdict: Verdict, alike: bool) {
         self.agreement.count(alike);
         match verdict {
             Ok(_) => up(&mut self.accepted),
@@ -77,7 +77,7 @@ pub struct Runs {
 }
 
 impl Runs {
-    pub fn count(&mut self, ran: &Ran, alike: bool) {
+    pub(crate) fn count(&mut self, ran: &Ran, alike: bool) {
         self.agreement.count(alike);
         match ran.outcome {
             Ok(ending) => up(&mut self.ended[ending as usize]),
@@ -111,7 +111,7 @@ fn line(rt: &impl Print, words: &str, number: u32) -> io::Result<()> {
 }
 
 impl Tally {
-    pub fn report(&self, rt: &impl Print) -> io::Result<()> {
+    pub(crate) fn report(&self, rt: &impl Print) -> io::Result<()> {
         println!(rt; "verdicts agree {}", self.verdicts.agreement)?;
         println!(rt; "runs agree {}", self.runs.agreement)?;
         line(rt, "accepted", self.verdicts.accepted)?;
@@ -126,7 +126,7 @@ impl Tally {
 
 impl Worked {
     // A file that was accepted: whether verify accepts it, and whether it stays the same.
-    pub fn accepted(&mut self, verified: bool, same_again: bool) {
+    pub(crate) fn accepted(&mut self, verified: bool, same_again: bool) {
         if verified {
             up(&mut self.verified);
         }
@@ -136,14 +136,14 @@ impl Worked {
     }
 
     // A file that was refused, and whether its bytes are as they came.
-    pub fn refused(&mut self, kept: bool) {
+    pub(crate) fn refused(&mut self, kept: bool) {
         if kept {
             up(&mut self.kept);
         }
     }
 
     // A loop, and whether its r0 is claimed to be anything.
-    pub fn claimed(&mut self, anything: bool) {
+    pub(crate) fn claimed(&mut self, anything: bool) {
         up(if anything {
             &mut self.widened
         } else {
@@ -151,7 +151,7 @@ impl Worked {
         });
     }
 
-    pub fn report(&self, rt: &impl Print) -> io::Result<()> {
+    pub(crate) fn report(&self, rt: &impl Print) -> io::Result<()> {
         println!(rt; "claims worked out alike {}", self.verdicts.agreement)?;
         line(rt, "worked out and accepted", self.verdicts.accepted)?;
         line(rt, "then verified", self.verified)?;

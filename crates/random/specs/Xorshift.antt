@@ -1,4 +1,4 @@
--- Xorshift on 32 bits (Marsaglia, "Xorshift RNGs"), with the shifts 13, 17 and 5. Assumes nothing.
+-- Xorshift on 32 bits (Marsaglia, Xorshift RNGs), with the shifts 13, 17 and 5. Assumes nothing.
 use Rattle.std.specs.Prelude.{ℕ, ◌*◌, ◌/◌, ◌%◌, ◌^◌, bit_xor}
 
 -- a number and its shift to the left by k
