@@ -2,7 +2,7 @@
 // 0 for none, or else the refusal's number with its place, and what there is nothing to say of is 0.
 ghost use Rattle.std.specs.Prelude.{◌≡◌};
 ghost use Rattle.model.specs.Answers.{judgement_of, report_of};
-ghost use Rattle.reader.specs.Readings.{reading_of};
+ghost use Rattle.reader.specs.Readings.{holds, reading_of};
 ghost use Rattle.writer.specs.Reports as Reports;
 ghost use Rattle.madsjirn.specs.Numbers.{module_numbers, verdict_numbers, run_numbers, write_numbers};
 
@@ -55,28 +55,36 @@ pub struct WriteAnswer {
 // The ending of a refused run.
 const NOT_RUN: u32 = 5;
 
+impl ModuleAnswer {
+    // Of any layout and counts, whether or not a file has them.
+    #[tactic(auto, unfolding(crate::specs::Numbers::module_numbers))]
+    pub fn of(layout: Layout, held: Contents) -> ModuleAnswer
+        ensures { result ≡ module_numbers (holds layout held.instructions held.targets) }
+    {
+        let Layout { base, size, guard } = layout;
+        let Contents {
+            instructions,
+            targets,
+        } = held;
+        ModuleAnswer {
+            refusal: 0,
+            place: 0,
+            base,
+            size,
+            guard,
+            instructions,
+            targets,
+        }
+    }
+}
+
 impl<'a> From<Result<Module<'a>, Refusal>> for ModuleAnswer {
     ghost from_gives = { λ read answer. answer ≡ module_numbers (reading_of read) };
 
     #[tactic(auto, unfolding(crate::specs::Numbers::module_numbers, reader::specs::Readings::reading_of, model::specs::Answers::fault_of))]
     fn from(read: Result<Module<'a>, Refusal>) -> ModuleAnswer {
         match read {
-            Ok(module) => {
-                let Layout { base, size, guard } = module.layout;
-                let Contents {
-                    instructions,
-                    targets,
-                } = module.held;
-                ModuleAnswer {
-                    refusal: 0,
-                    place: 0,
-                    base,
-                    size,
-                    guard,
-                    instructions,
-                    targets,
-                }
-            }
+            Ok(module) => ModuleAnswer::of(module.layout, module.held),
             Err(Refusal { rule, place }) => ModuleAnswer {
                 refusal: u32::from(rule),
                 place,
