@@ -1,5 +1,5 @@
--- Demand 3 for whatever a host calls: each entry's contract gives the promise of run, and each verdict that no rule is broken; and calls
--- join by that promise.
+-- Demand 3 for whatever a host calls: each entry's contract gives the promise of run, and each verdict that no rule is broken; and by
+-- that promise calls join, and are what they were when budgets had 32 bits.
 -- Assumes nothing.
 use Prim.Native.Nat.{ℕ, ◌+◌}
 use mathlib.Core.Path.{◌≡◌, refl, sym, ap, ◌∙◌}
@@ -15,6 +15,7 @@ use Rattle.model.specs.Run.{Seen, RunPost, run_on}
 use Rattle.model.specs.Counts.{step_bits, in_bits}
 use Rattle.model.specs.Walk.{Call, host_writes, Called}
 use Rattle.model.specs.Walk as Walk
+use Rattle.model.proofs.Counts.{counts_carried}
 use Rattle.model.proofs.JoiningCalls.{runs_join}
 use Rattle.model.proofs.Claims.Answering.{worked_out_judged}
 use Rattle.safety.proofs.Safety.{safety}
@@ -22,7 +23,7 @@ use Rattle.safety.proofs.Entries.{accepted_means}
 use Rattle.madsjirn.specs.declared.answers.RunAnswer.{RunAnswer}
 use Rattle.madsjirn.specs.declared.answers.VerdictAnswer.{VerdictAnswer}
 use Rattle.madsjirn.specs.Numbers.{verdict_numbers, run_numbers, report_in, Leaves}
-use Rattle.madsjirn.specs.Entries.{LetIn, verified, verified_by_number, worked_out_file, worked_out_by_number, seen_in, EntryPost, by_value, over_lent, exported, Hosted, done, call, HostedAnswers, HostedJoin, HostedSafety}
+use Rattle.madsjirn.specs.Entries.{LetIn, verified, verified_by_number, worked_out_file, worked_out_by_number, seen_in, EntryPost, by_value, over_lent, exported, Hosted, done, call, HostedAnswers, HostedEarlier, HostedJoin, HostedSafety}
 use Rattle.madsjirn.proofs.Decoding.{report_carried, verdict_passed, worked_passed}
 
 -- what is read back from the numbers of an exported call is the model's
@@ -71,6 +72,11 @@ hosted_safety = record {
       safety.safe file m memory calls seen
       (record { bytes = bytes; accepted = let_in let-in-by; at_indirect = at_indirect; registers = words; written = written })
       (called hosted);
+}
+
+pub hosted_earlier : HostedEarlier
+hosted_earlier = record {
+  earlier = λ file m memory offset budget seen fits answered. counts_carried.earlier file m memory offset budget seen fits (entry_post answered);
 }
 
 pub hosted_join : HostedJoin

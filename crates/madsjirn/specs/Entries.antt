@@ -1,6 +1,6 @@
 -- Demand 3 for whatever a host calls: runs and steps by value, over a lent machine and exported, in any mixture, each by its own
--- contract, of a module that either verifier accepted, with its own claims or with claims that were worked out; and how such calls join.
--- Proved in proofs/Entries. Assumes nothing.
+-- contract, of a module that either verifier accepted, with its own claims or with claims that were worked out; how such calls join,
+-- and that those with a budget of 32 bits are what they were. Proved in proofs/Entries. Assumes nothing.
 use Rattle.std.specs.Prelude.{ℕ, ◌+◌, ◌^◌, ◌<◌, ◌≡◌, true, None, Result, Ok}
 use mathlib.Core.List.{List, [], ◌∷◌, Memᴰ}
 use Rattle.model.specs.declared.Answer.{Answer}
@@ -15,7 +15,7 @@ use Rattle.model.specs.File.{byte_at, program_in}
 use Rattle.model.specs.Judgement.{first_broken, judgement}
 use Rattle.model.specs.Claims.{work_out}
 use Rattle.model.specs.Run.{Seen, RunPost, run_on, seen_after}
-use Rattle.model.specs.Counts.{step_bits, in_bits}
+use Rattle.model.specs.Counts.{step_bits, earlier_step_bits, in_bits, run_in}
 use Rattle.model.specs.Walk.{Call, host_writes}
 use Rattle.model.specs.Safety.{EightWords, Bytes, Safe}
 use Rattle.model.specs.Writer.{Tables, write}
@@ -70,6 +70,12 @@ pub record NumbersCarried : Type 0 where
   pub written : (t : Tables) (buffer : List ℕ) → write_report_in (write_numbers (write t buffer).report) ≡ (write t buffer).report
   pub call : (file : List ℕ) (m : Machine) (memory : List ℕ) (offset budget : ℕ)
       → report_in (run_numbers (run_on file m memory offset budget).report) ≡ (run_on file m memory offset budget).report
+
+-- document 02, ticket 6: "every earlier run gives its earlier answer.": whatever any entry answered and left with a budget that has 32
+-- bits is what the run of 32 bits did
+pub record HostedEarlier : Type 0 where
+  pub earlier : (file : List ℕ) (m : Machine) (memory : List ℕ) (offset budget : ℕ) (seen : Seen) → budget < 2 ^ earlier_step_bits
+      → EntryPost file m memory offset budget seen → seen ≡ run_in earlier_step_bits file m memory offset budget
 
 -- document 02, ticket 6: "The joining of p and q steps now holds up to the wider limit." It is said of whatever three calls answered and
 -- left, each by any entry: one that is spent, one that goes on from what it left, and one with both budgets, where their sum

@@ -1,7 +1,7 @@
 -- Document 02, ticket 6: a run makes at most its budget of steps, so in a width that holds the budget neither budget nor count loses
 -- anything; and so runs join in that width as they do in natural numbers. Assumes nothing.
 use Prim.Native.Nat.{ℕ, zero, suc, ◌+◌, ◌^◌, ◌≤◌, ◌<◌}
-use mathlib.Core.Path.{◌≡◌, sym, ap, ◌∙◌}
+use mathlib.Core.Path.{◌≡◌, refl, sym, ap, ◌∙◌}
 use mathlib.Core.List.{List}
 use Rattle.std.specs.Prelude.{Option, None, Some}
 use native.Mathlib.Nat.{mod-eq_of_lt}
@@ -76,6 +76,7 @@ runs_joined bits file m memory offset first more made fits spent =
 
 pub counts_carried : CountsCarried
 counts_carried = record {
+  width = refl;
   within = count_within;
   kept = λ bits file m memory offset budget fits. run_kept file m memory offset bits budget fits;
   earlier = λ file m memory offset budget seen fits post. post.is ∙ sym (run_kept file m memory offset earlier_step_bits budget fits);

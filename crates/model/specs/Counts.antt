@@ -5,8 +5,7 @@ use Rattle.model.specs.declared.Machine.{Machine}
 use Rattle.model.specs.Answers.{Report, ended, rejected}
 use Rattle.model.specs.Run.{Seen, run_on}
 
--- how many bits the ticket gives a budget and a count, and how many they have (`Steps` in the code, until the ticket lands): document
--- 01's "A run has a budget, 32 bits."
+-- how many bits a budget and a count have (`Steps` in the code), and how many they had: document 01's "A run has a budget, 32 bits."
 abbrev pub step_bits : ℕ
 step_bits = 64
 

@@ -9,6 +9,7 @@ use Rattle.model.specs.declared.Layout.{Layout}
 use Rattle.model.specs.declared.LoadWidth.TheVariants.{SignedOne, SignedTwo}
 use Rattle.model.specs.declared.Machine.{Machine}
 use Rattle.model.specs.declared.Ranges.{Ranges}
+use Rattle.model.specs.declared.TheConstants.{STEP_BITS}
 use Rattle.model.specs.Words.{modulus, signed, signed_from}
 use Rattle.model.specs.Instructions.{carried}
 use Rattle.model.specs.Obligations.{Fault, fault, first_fault, FirstUnmet}
@@ -98,6 +99,8 @@ pub record CallsJoin : Type 0 where
 
 -- document 02, ticket 6: "Every 32-bit count carried over means the same number, and every earlier run gives its earlier answer."
 pub record CountsCarried : Type 0 where
+  -- a budget and a count have in the code the bits that the ticket gives them
+  pub width : STEP_BITS ≡ step_bits
   -- a run makes at most its budget of steps, so a count fits wherever its budget does
   pub within : (file : List ℕ) (m : Machine) (memory : List ℕ) (offset budget : ℕ) → steps_in (run_on file m memory offset budget).report ≤ budget
   -- and in a width that holds the budget nothing of either is lost

@@ -280,8 +280,11 @@ impl Rule {
 // The verifier's answer: what the accepted module holds, or the first refusal.
 pub type Verdict = Result<Contents, Refusal>;
 
-// How many steps: a budget, and the count of steps made.
-pub type Steps = u32;
+// How many steps: a budget, and the count of steps made. Document 02, ticket 6: "64 bits wide in the machine and the answer."
+pub type Steps = u64;
+
+// How many bits that is: of this `CountsCarried` (specs/Promises) says that it is the ticket's width.
+pub const STEP_BITS: u32 = Steps::BITS;
 
 // The answer to a call to run: how it ended or the refusal, and how many steps were made.
 #[derive(Clone, Copy)]

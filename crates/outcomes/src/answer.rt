@@ -48,9 +48,12 @@ impl Ending {
 pub struct Ran {
     pub registers: [u32; 8],
     pub place: u16,
-    pub steps: u32,
+    pub steps: u64,
     pub outcome: Result<Ending, Fault>,
 }
+
+// The first budget that 32 bits don't hold: cut to them it leaves no step.
+pub const PAST: u64 = 1 << 32;
 
 // What the host gives to a run, but for the file and the memory. (Its registers and those above are of two structs, no columns of one.)
 #[derive(Clone, Copy)]
@@ -58,7 +61,7 @@ pub struct Start {
     pub registers: [u32; 8],
     pub place: u16,
     pub offset: usize,
-    pub budget: u32,
+    pub budget: u64,
 }
 
 // This and the next are alike but for a word, and each names its own fields.

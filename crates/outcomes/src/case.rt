@@ -1,4 +1,5 @@
 // One generated module, judged and run by both implementations, and then with claims that they work out.
+use super::answer::{Ending, PAST, Ran, Start};
 use super::plan::Maker;
 use super::side::Side;
 use super::tally::{Runs, Tally, Verdicts, Worked};
@@ -6,19 +7,46 @@ use super::work::compare;
 use random::Random;
 use std::array;
 
+const ROOM: usize = 700;
+
+// A run, and the memory after it.
+#[derive(Clone, Copy, PartialEq, Eq)]
+struct Made {
+    ran: Ran,
+    memory: [u8; ROOM],
+}
+
+fn make(side: Side, file: &[u8], start: &Start, memory: &[u8; ROOM]) -> Made {
+    let mut memory = *memory;
+    let ran = side.run(file, start, &mut memory);
+    Made { ran, memory }
+}
+
 fn judge(file: &[u8], verdicts: &mut Verdicts) {
     let x = Side::Ours.verify(file);
     let y = Side::Theirs.verify(file);
     verdicts.count(y, x == y);
 }
 
+// A run that ends by itself is made again with a larger budget, with which it must be the same.
 fn run(maker: &mut Maker, file: &[u8], runs: &mut Runs) {
     let start = maker.start();
-    let mut left: [u8; 700] = array::from_fn(|_| (maker.random.next() & 0xff) as u8);
-    let mut right = left;
-    let x = Side::Ours.run(file, &start, &mut left);
-    let y = Side::Theirs.run(file, &start, &mut right);
-    runs.count(&y, x == y && left == right);
+    let memory: [u8; ROOM] = array::from_fn(|_| (maker.random.next() & 0xff) as u8);
+    let ours = make(Side::Ours, file, &start, &memory);
+    let theirs = make(Side::Theirs, file, &start, &memory);
+    runs.count(&theirs.ran, ours == theirs);
+    if theirs
+        .ran
+        .outcome
+        .is_ok_and(|ending| ending != Ending::Spent)
+    {
+        let longer = Start {
+            budget: PAST,
+            ..start
+        };
+        let same = Side::both(|side| make(side, file, &longer, &memory) == theirs);
+        runs.count_longer(same);
+    }
 }
 
 pub(crate) fn case(random: &mut Random, tally: &mut Tally, worked: &mut Worked) {

@@ -1,6 +1,7 @@
 // The known cases, group by group: how many there are, and how many each implementation answers as documents 01 and 02
 // say.
 use super::edge::{access_row, cut_row, range_row, width_row};
+use super::known::{BUDGETS, budget_row};
 use super::limit::{CHAINS, COUNTS, chain_row, count_row};
 use super::order::{JUMPS, LAYOUTS, ORDERS, SPOILED, layout_row, order_row, spoiled_row};
 use super::range::{ACCESSES, CUTS, MOVES, RULE_B, RULE_N, RULE_W, SHIFTS};
@@ -56,7 +57,8 @@ fn steps(rt: &impl Print) -> io::Result<()> {
         space_row,
     )?;
     group(rt, "jumps, tests and values", &OTHERS, other_row)?;
-    group(rt, "signed samples", &SAMPLES, sample_row)
+    group(rt, "signed samples", &SAMPLES, sample_row)?;
+    group(rt, "budgets past 32 bits", &BUDGETS, budget_row)
 }
 
 pub(crate) fn groups(rt: &impl Print) -> io::Result<()> {

@@ -1,8 +1,10 @@
 // The known outcomes of document 01 that are not proved, and outcomes of document 02's ticket 1: each line has its name,
-// and then both implementations' answers.
-use super::answer::{Ran, Start, Told};
+// and then both implementations' answers. The loop again, with the budgets of ticket 6.
+use super::answer::Ending::{Spent, Trapped};
+use super::answer::{Ending, PAST, Ran, Start, Told};
 use super::build::Op::{Addi, Branch, Guard, Halt, Jump, Load, Set};
 use super::build::{ANYTHING, Code, File, Kind, Layout, MOST, Span};
+use super::score::Score;
 use super::side::Side;
 use std::fmt::Display;
 use std::{fmt, io};
@@ -156,26 +158,52 @@ fn loop_verdicts(rt: &impl Print, words: &str, guard: u32, most: u32) -> io::Res
 }
 
 // A run with 0 in every register, over a memory of sevens that holds the region.
-fn run_of(side: Side, file: &[u8], r: usize) -> Seen {
+fn run_of(side: Side, file: &[u8], budget: u64) -> Ran {
     let start = Start {
         registers: [0; 8],
         place: 0,
         offset: 300,
-        budget: 10000,
+        budget,
     };
     let mut memory = [7u8; 5000];
-    Seen {
-        ran: side.run(file, &start, &mut memory),
-        r,
-    }
+    side.run(file, &start, &mut memory)
 }
 
 // The module's run; register r is shown.
 fn runs(rt: &impl Print, words: &str, module: &Module, r: usize) -> io::Result<()> {
     let file = module.file();
-    let ours = run_of(Side::Ours, file.as_slice(), r);
-    let theirs = run_of(Side::Theirs, file.as_slice(), r);
+    let seen = |side| Seen {
+        ran: run_of(side, file.as_slice(), 10000),
+        r,
+    };
+    let ours = seen(Side::Ours);
+    let theirs = seen(Side::Theirs);
     println!(rt; "{words}: {ours} and {theirs}")
+}
+
+// Of ticket 6: a budget for the loop, how its run ends with it, and after how many steps.
+pub type BudgetRow = (u64, Ending, u64);
+
+pub const BUDGETS: [BudgetRow; 10] = [
+    (0, Spent, 0),
+    (3073, Spent, 3073),
+    (3074, Trapped, 3074),
+    (PAST - 1, Trapped, 3074),
+    (PAST, Trapped, 3074),
+    (PAST + 2, Trapped, 3074),
+    (PAST + 3073, Trapped, 3074),
+    (1 << 63, Trapped, 3074),
+    (u64::MAX - PAST + 1, Trapped, 3074),
+    (u64::MAX, Trapped, 3074),
+];
+
+pub(crate) fn budget_row(score: &mut Score, row: &BudgetRow) {
+    let &(budget, ending, steps) = row;
+    let file = LOOP.file();
+    score.ask(|side| {
+        let ran = run_of(side, file.as_slice(), budget);
+        ran.outcome == Ok(ending) && ran.steps == steps
+    });
 }
 
 fn known_loop(rt: &impl Print) -> io::Result<()> {

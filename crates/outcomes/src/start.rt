@@ -49,7 +49,7 @@ impl Maker {
             registers: array::from_fn(|_| self.first_value()),
             place: self.first_place(),
             offset: self.first_offset(),
-            budget: self.random.below(201),
+            budget: u64::from(self.random.below(201)),
         }
     }
 }

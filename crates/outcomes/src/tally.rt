@@ -72,6 +72,8 @@ impl Verdicts {
 #[derive(Clone, Copy, Default)]
 pub struct Runs {
     agreement: Agreement,
+    // Of those that ended by themselves, made again with a budget past 32 bits.
+    longer: Agreement,
     refused: Refusals,
     ended: [u32; 5],
 }
@@ -83,6 +85,10 @@ impl Runs {
             Ok(ending) => up(&mut self.ended[ending as usize]),
             Err(fault) => self.refused.count(fault.number),
         }
+    }
+
+    pub(crate) fn count_longer(&mut self, alike: bool) {
+        self.longer.count(alike);
     }
 }
 
@@ -114,6 +120,7 @@ impl Tally {
     pub(crate) fn report(&self, rt: &impl Print) -> io::Result<()> {
         println!(rt; "verdicts agree {}", self.verdicts.agreement)?;
         println!(rt; "runs agree {}", self.runs.agreement)?;
+        println!(rt; "the same with a budget past 32 bits {}", self.runs.longer)?;
         line(rt, "accepted", self.verdicts.accepted)?;
         self.verdicts.refused.report(rt, "refused")?;
         self.runs.refused.report(rt, "run refused")?;

@@ -106,6 +106,6 @@ impl From<Ending> for u32 {
 pub struct Ran {
     pub registers: [u32; 8],
     pub place: u16,
-    pub steps: u32,
+    pub steps: u64,
     pub outcome: Result<Ending, Refusal>,
 }

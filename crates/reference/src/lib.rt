@@ -53,15 +53,16 @@ pub fn work_out(file: &mut [u8]) -> Result<Counts, Refusal>
     Ok(module.shape.counts())
 }
 
-// A run of at most budget steps: refused by a rule of 1 to 7, 14 or 15, or with its ending. The contract does not settle
-// which of them it is, nor the place of a refusal, nor what a run does to registers, place and memory: that these are right is tested by comparison.
+// A run of at most budget steps: refused by a rule of 1 to 7, 14 or 15, or with its ending. Budget and count are 64 bits wide by ticket
+// 6 of document 02. The contract does not settle which of them it is, nor the place of a refusal, nor what a run does to registers,
+// place and memory: that these are right is tested by comparison.
 pub fn run(
     file: &[u8],
     registers: [u32; 8],
     place: u16,
     memory: &mut [u8],
     offset: usize,
-    budget: u32,
+    budget: u64,
 ) -> Ran
     ensures { RunSaid registers place budget memory.old memory.new result }
 {

@@ -138,7 +138,7 @@ impl Machine {
         Ok(())
     }
 
-    fn ended(self, steps: u32, ending: Ending) -> Ran
+    fn ended(self, steps: u64, ending: Ending) -> Ran
         ensures steps { result.steps ≡ steps }
         ensures ended { result.outcome ≡ Ok ending }
     {
@@ -151,7 +151,7 @@ impl Machine {
         }
     }
 
-    pub(crate) fn run(mut self, module: &Module, region: &mut [u8], budget: u32) -> Ran
+    pub(crate) fn run(mut self, module: &Module, region: &mut [u8], budget: u64) -> Ran
         ensures { IsOkAnd result.outcome (λ ending. Ended budget result ending) }
     {
         for made in 0..budget {
