@@ -154,12 +154,18 @@ typedef struct {
     uint32_t targets;      /* "doors", 1 to 256 */
 } madsjirn_verdict;
 
-/* What madsjirn_run and madsjirn_step answer. */
+/*
+ * What madsjirn_run and madsjirn_step answer.
+ *
+ * Member steps and the budget had 32 bits before document 02's ticket 6, and this struct 16 bytes. It has 24 now: four
+ * that mean nothing stand between ending and steps. Code that was compiled with the earlier header still links, but
+ * passes and takes answers otherwise: compile all of it anew.
+ */
 typedef struct {
     uint32_t refusal; /* 0: the run was made; or 1 to 7, 14, 15 */
     uint32_t place;
     uint32_t ending;  /* MADSJIRN_HALTED to MADSJIRN_OUT_OF_BUDGET; MADSJIRN_REFUSED where refusal is not 0 */
-    uint32_t steps;   /* the steps made, the ending one included; 0 where refusal is not 0 */
+    uint64_t steps;   /* the steps made, the ending one included; 0 where refusal is not 0 */
 } madsjirn_answer;
 
 /* What madsjirn_write answers. */
@@ -222,7 +228,7 @@ madsjirn_verdict madsjirn_work_out(uint8_t *file, size_t file_length);
  * MADSJIRN_OUT_OF_BUDGET a further call goes on where this one stopped.
  */
 madsjirn_answer madsjirn_run(const uint8_t *file, size_t file_length, madsjirn_machine *machine, uint8_t *memory,
-                             size_t memory_length, size_t offset, uint32_t budget);
+                             size_t memory_length, size_t offset, uint64_t budget);
 
 /*
  * Makes one step: madsjirn_run with budget 1. A step after which the run could go on ends as
@@ -271,7 +277,7 @@ madsjirn_written madsjirn_write(uint32_t base, uint32_t size, uint32_t guard,
 MADSJIRN_ASSERT_SIZE(madsjirn_machine, 36);
 MADSJIRN_ASSERT_SIZE(madsjirn_module, 28);
 MADSJIRN_ASSERT_SIZE(madsjirn_verdict, 16);
-MADSJIRN_ASSERT_SIZE(madsjirn_answer, 16);
+MADSJIRN_ASSERT_SIZE(madsjirn_answer, 24);
 MADSJIRN_ASSERT_SIZE(madsjirn_instruction, 20);
 MADSJIRN_ASSERT_SIZE(madsjirn_range, 8);
 MADSJIRN_ASSERT_SIZE(madsjirn_target, 72);

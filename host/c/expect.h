@@ -4,6 +4,7 @@
 #ifndef EXPECT_H
 #define EXPECT_H
 
+#include <inttypes.h>
 #include <stddef.h>
 #include <stdint.h>
 #include <stdio.h>
@@ -16,12 +17,12 @@
 static unsigned looked_at = 0;
 static unsigned wrong = 0;
 
-static void expect(const char *call, const char *member, uint32_t found, uint32_t due) {
+static void expect(const char *call, const char *member, uint64_t found, uint64_t due) {
     looked_at += 1;
     if (found != due) {
         wrong += 1;
-        printf("  WRONG %s: %s is %u (%08x hex) and not %u (%08x hex)\n", call, member, (unsigned)found,
-               (unsigned)found, (unsigned)due, (unsigned)due);
+        printf("  WRONG %s: %s is %" PRIu64 " (%08" PRIx64 " hex) and not %" PRIu64 " (%08" PRIx64 " hex)\n", call, member,
+               found, found, due, due);
     }
 }
 

@@ -36,8 +36,8 @@ _Static_assert(sizeof(madsjirn_verdict) == 16, "size of madsjirn_verdict");
 ASSERT_MEMBER(madsjirn_answer, refusal, 0, 4);
 ASSERT_MEMBER(madsjirn_answer, place, 4, 4);
 ASSERT_MEMBER(madsjirn_answer, ending, 8, 4);
-ASSERT_MEMBER(madsjirn_answer, steps, 12, 4);
-_Static_assert(sizeof(madsjirn_answer) == 16, "size of madsjirn_answer");
+ASSERT_MEMBER(madsjirn_answer, steps, 16, 8);
+_Static_assert(sizeof(madsjirn_answer) == 24, "size of madsjirn_answer");
 
 enum {
     BASE = 0x20000000,
@@ -163,7 +163,7 @@ static void look_at_work_out(void) {
                    MADSJIRN_WILD_ACCESS, 1);
 }
 
-static void expect_made(const char *call, madsjirn_answer answer, uint32_t ending, uint32_t steps) {
+static void expect_made(const char *call, madsjirn_answer answer, uint32_t ending, uint64_t steps) {
     EXPECT(call, answer, refusal, MADSJIRN_ACCEPTED);
     EXPECT(call, answer, ending, ending);
     EXPECT(call, answer, steps, steps);
@@ -188,7 +188,7 @@ static void look_at_loop(void) {
     due.registers[1] = (uint32_t)BASE + SIZE;
     due.pc = 1;
     memcpy(memory + OFFSET + SIZE - sizeof last_word, last_word, sizeof last_word);
-    expect_made(call, madsjirn_run(file.bytes, file.length, &machine, memory, MEMORY_LENGTH, OFFSET, UINT32_MAX),
+    expect_made(call, madsjirn_run(file.bytes, file.length, &machine, memory, MEMORY_LENGTH, OFFSET, UINT64_MAX),
                 MADSJIRN_TRAPPED, 3074);
     expect_machine(call, &machine, &due);
 }

@@ -6,6 +6,7 @@
 
 #include "file_builder.h"
 
+#include <inttypes.h>
 #include <stdbool.h>
 #include <stdio.h>
 #include <string.h>
@@ -90,8 +91,8 @@ static void show_run(const file_builder *file) {
     madsjirn_machine machine = {{0}, 0};
     fill_memory();
     madsjirn_answer answer =
-        madsjirn_run(file->bytes, file->length, &machine, memory, MEMORY_LENGTH, OFFSET, UINT32_MAX);
-    printf("run: ending %u, %u steps, pc %u, r1 %08x\n", (unsigned)answer.ending, (unsigned)answer.steps,
+        madsjirn_run(file->bytes, file->length, &machine, memory, MEMORY_LENGTH, OFFSET, UINT64_MAX);
+    printf("run: ending %u, %" PRIu64 " steps, pc %u, r1 %08x\n", (unsigned)answer.ending, answer.steps,
            (unsigned)machine.pc, (unsigned)machine.registers[1]);
     expect(answer.refusal == MADSJIRN_ACCEPTED && answer.ending == MADSJIRN_TRAPPED && answer.steps == 3074,
            "trapped after 3,074 steps");
@@ -103,7 +104,7 @@ static void show_step(const file_builder *file) {
     madsjirn_machine machine = {{0, 0x12345678}, 0};
     fill_memory();
     madsjirn_answer answer = madsjirn_step(file->bytes, file->length, &machine, memory, MEMORY_LENGTH, OFFSET);
-    printf("step: ending %u, %u steps, pc %u, r1 %08x\n", (unsigned)answer.ending, (unsigned)answer.steps,
+    printf("step: ending %u, %" PRIu64 " steps, pc %u, r1 %08x\n", (unsigned)answer.ending, answer.steps,
            (unsigned)machine.pc, (unsigned)machine.registers[1]);
     expect(answer.refusal == MADSJIRN_ACCEPTED && answer.ending == MADSJIRN_OUT_OF_BUDGET && answer.steps == 1,
            "one step made, and the run could go on");

@@ -71,7 +71,7 @@ impl Work {
     }
 
     /// The instructions that are judged or written, or the steps that are made; 0 where the unit is a call.
-    fn count(self) -> u32 {
+    fn count(self) -> u64 {
         match self {
             Work::Read | Work::Verify | Work::Write => 4096,
             Work::Loop => samples::LOOP_STEPS,
@@ -80,17 +80,17 @@ impl Work {
         }
     }
 
-    fn budget(self) -> u32 {
+    fn budget(self) -> u64 {
         match self {
             Work::Mixed => MIXED_STEPS,
             Work::JudgeLoop | Work::JudgeMixed => 0,
-            _ => u32::MAX,
+            _ => u64::MAX,
         }
     }
 }
 
 /// One run of the mixed module: long enough that judging the file at its start hardly counts.
-pub const MIXED_STEPS: u32 = 250_000;
+pub const MIXED_STEPS: u64 = 250_000;
 
 /// The modules, and a memory for each side in which the region begins at [`OFFSET`].
 pub struct Bench {
@@ -171,12 +171,12 @@ impl Bench {
             let count = do_once(side, file, &self.tables, memory, work);
             assert_eq!(count, work.count(), "{}", work.name());
         }
-        u64::from(work.count().max(1)) * u64::from(times)
+        work.count().max(1) * u64::from(times)
     }
 }
 
 /// Does a piece of work and answers the instructions judged or written, or the steps made.
-fn do_once(side: Side, file: &mut [u8], tables: &Tables, memory: &mut [u8], work: Work) -> u32 {
+fn do_once(side: Side, file: &mut [u8], tables: &Tables, memory: &mut [u8], work: Work) -> u64 {
     match work {
         // The claims that the file has then are ignored the next time, so that each time is like the first.
         Work::ClaimsMixed | Work::ClaimsLargest | Work::ClaimsSlowest => {
@@ -187,17 +187,17 @@ fn do_once(side: Side, file: &mut [u8], tables: &Tables, memory: &mut [u8], work
         Work::Read => {
             let read = side.read(black_box(file));
             let [.., instructions, _] = black_box(read).expect("the module is readable");
-            instructions
+            u64::from(instructions)
         }
         Work::Verify => {
             let verified = side.verify(black_box(file));
             let [instructions, _] = black_box(verified).expect("the module is accepted");
-            instructions
+            u64::from(instructions)
         }
         Work::Write => {
             let written = side.write(black_box(tables), black_box(file));
             let length = black_box(written).expect("the tables are good");
-            (length - 21 - 256 * 68) / 8
+            u64::from((length - 21 - 256 * 68) / 8)
         }
         Work::Loop | Work::Mixed | Work::JudgeLoop | Work::JudgeMixed => {
             let mut machine = Machine {

@@ -11,8 +11,8 @@ use sides::ending::{OUT_OF_BUDGET, VIOLATED};
 use sides::{Machine, Ran, Side};
 use std::ops::Range;
 
-/// A run that ended within this many steps may be made again with budget `u32::MAX`.
-const KNOWN_TO_END: u32 = 5000;
+/// A run that ended within this many steps may be made again with a far larger budget.
+const KNOWN_TO_END: u64 = 5000;
 
 pub fn compare_list(seed: u64, case: u64, tally: &mut Tally) -> Result<(), String> {
     // Other numbers than those of the modules' cases.
@@ -102,7 +102,7 @@ impl List<'_> {
             self.set_machine(random);
         }
         if random.chance(20) && self.ends(call) {
-            call.budget = u32::MAX;
+            call.budget = plan::large_budget(random);
         }
         call.by_step &= call.budget == 1;
         call
@@ -146,7 +146,7 @@ impl List<'_> {
             return Err(format!("refused {ran:?}, but machine or memory changed"));
         }
         self.look_at_steps(ran, call)?;
-        tally.count_call(ran, self.safe && ran.is_ok());
+        tally.count_call(call.budget, ran, self.safe && ran.is_ok());
         for (width, file) in &self.without_sign {
             if self.ends_otherwise(file, &before, ran, call) {
                 tally.count_signed_run(*width);

@@ -8,7 +8,7 @@ use sides::Machine;
 #[derive(Clone, Copy, Debug)]
 pub struct Call {
     pub offset: usize,
-    pub budget: u32,
+    pub budget: u64,
     /// Budget 1 by the function `step`.
     pub by_step: bool,
 }
@@ -158,14 +158,26 @@ fn offset(random: &mut Random, memory_length: usize, size: usize) -> usize {
     }
 }
 
-/// `u32::MAX` is chosen later, for runs that are known to end.
-fn budget(random: &mut Random) -> u32 {
+/// Larger ones are chosen later, for runs that are known to end.
+fn budget(random: &mut Random) -> u64 {
     match random.below(10) {
         0 => 0,
         1..=3 => 1,
-        4 | 5 => 2 + random.below(10) as u32,
-        6 | 7 => random.below(200) as u32,
-        _ => 1000 + random.below(4000) as u32,
+        4 | 5 => 2 + random.below(10) as u64,
+        6 | 7 => random.below(200) as u64,
+        _ => 1000 + random.below(4000) as u64,
+    }
+}
+
+/// A budget far beyond any run here: near the ends of 32 and of 64 bits, any at all, or with few steps in its lower 32.
+pub fn large_budget(random: &mut Random) -> u64 {
+    let few = random.below(8) as u64;
+    match random.below(8) {
+        0 => u64::from(u32::MAX) - few,
+        1 => u64::MAX - few,
+        2 => random.number(),
+        3 => u64::from(random.word()) << 32,
+        _ => (1 << 32) + few,
     }
 }
 

@@ -32,7 +32,9 @@ pub struct Tally {
     lists: u64,
     calls: u64,
     steps: u64,
-    longest_run: u32,
+    longest_run: u64,
+    /// Runs that would have ended otherwise if their budget had been cut to 32 bits.
+    long_budgets: u64,
     /// Calls of lists whose module is accepted and which began at an indirect target.
     safe_calls: u64,
 }
@@ -76,14 +78,15 @@ impl Tally {
         self.lists += 1;
     }
 
-    pub fn count_call(&mut self, ran: Ran, safe: bool) {
+    pub fn count_call(&mut self, budget: u64, ran: Ran, safe: bool) {
         self.calls += 1;
         self.safe_calls += u64::from(safe);
         self.run.count(number(ran.err()));
         if let Ok((ending, steps)) = ran {
             self.endings.count(ending);
-            self.steps += u64::from(steps);
+            self.steps += steps;
             self.longest_run = self.longest_run.max(steps);
+            self.long_budgets += u64::from(u64::from(budget as u32) < steps);
         }
     }
 
@@ -99,6 +102,7 @@ impl Tally {
         refusals
             .map(|rule| rule.to_string())
             .chain(endings.map(|ending| ending.to_string()))
+            .chain((self.long_budgets == 0).then(|| "a budget past 32 bits".into()))
             .chain(self.turns.missing())
             .chain(self.signed.missing())
             .chain(self.workings.missing())
@@ -154,12 +158,17 @@ impl Tally {
             safe_calls,
             steps,
             longest_run,
+            long_budgets,
             ..
         } = self;
         write!(out, "{lists} lists of runs, {calls} calls, ")?;
         writeln!(
             out,
             "{steps} steps on each side, at most {longest_run} in one call;"
+        )?;
+        writeln!(
+            out,
+            "  {long_budgets} calls that would end otherwise with their budget cut to 32 bits;"
         )?;
         writeln!(
             out,

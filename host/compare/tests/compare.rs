@@ -7,6 +7,7 @@ use modules::gate;
 use modules::generate::Origin;
 use modules::random::Random;
 use modules::samples::{document_loop, mixed};
+use sides::ending::HALTED;
 use sides::Side;
 
 #[test]
@@ -25,10 +26,26 @@ fn both_agree_on_other_seeds() {
 #[test]
 fn a_refusal_without_a_name_is_counted_too() {
     let mut tally = Tally::default();
-    tally.count_call(Err((99, 0)), false);
+    tally.count_call(0, Err((99, 0)), false);
     let table = tally.to_string();
     let line = table.lines().find(|line| line.starts_with("  99 "));
     assert!(line.is_some_and(|line| line.ends_with(" 1")), "{table}");
+}
+
+#[test]
+fn a_budget_past_32_bits_that_never_occurred_is_missing() {
+    let past = 1 << 32;
+    let mut tally = Tally::default();
+    for (budget, ran) in [
+        (9, Ok((HALTED, 9))),
+        (past + 9, Ok((HALTED, 9))),
+        (past, Err((14, 0))),
+    ] {
+        tally.count_call(budget, ran, false);
+        assert!(tally.missing().contains(&"a budget past 32 bits".into()));
+    }
+    tally.count_call(past + 8, Ok((HALTED, 9)), false);
+    assert!(!tally.missing().contains(&"a budget past 32 bits".into()));
 }
 
 #[test]

@@ -110,7 +110,7 @@ pub enum Ending {
 #[derive(Clone, Copy, Debug, PartialEq, Eq)]
 pub struct Run {
     pub ending: Ending,
-    pub steps: u32,
+    pub steps: u64,
 }
 
 /// Judges the file's form: refusals 1 to 7.
@@ -184,7 +184,7 @@ pub fn run(
     machine: &mut Machine,
     memory: &mut [u8],
     offset: usize,
-    budget: u32,
+    budget: u64,
 ) -> Result<Run, Refusal> {
     let (parts, region) = prepare(file, machine, memory, offset)?;
     Ok(machine::run(&parts, machine, region, budget))

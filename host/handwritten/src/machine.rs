@@ -45,12 +45,12 @@ impl Ground {
     /// How the run ends where it leaves the window, and the pc it ends at.
     #[cold]
     #[inline(never)]
-    fn leave(&self, parts: &Parts, registers: &[u32; 8], pc: usize, limit: u64) -> (Ending, usize) {
+    fn leave(&self, parts: &Parts, registers: &[u32; 8], pc: usize, left: u64) -> (Ending, usize) {
         let Some(instruction) = parts.code.get(pc) else {
             // Back to a last branch that wasn't taken.
             return (Ending::Violated, pc - 1);
         };
-        if pc as u64 == limit {
+        if left == 0 {
             return (Ending::OutOfBudget, pc);
         }
         // The last instruction, which can only go on to the next index.
@@ -74,28 +74,31 @@ struct Cursor<'a> {
     /// The part of the body that the budget allows, so that one bound serves for both.
     window: &'a [Instruction],
     pc: usize,
-    /// The index at which the budget ends if no transfer comes.
+    /// The index at which the budget ends if no transfer comes, without the carry where it passes 64 bits.
     limit: u64,
 }
 
 impl<'a> Cursor<'a> {
     #[inline(always)]
-    fn new(body: &'a [Instruction], pc: usize, budget: u32) -> Self {
-        let limit = pc as u64 + u64::from(budget);
+    fn new(body: &'a [Instruction], pc: usize, left: u64) -> Self {
+        let end = (pc as u64).saturating_add(left);
         Cursor {
             body,
-            window: &body[..limit.min(body.len() as u64) as usize],
+            window: &body[..end.min(body.len() as u64) as usize],
             pc,
-            limit,
+            limit: (pc as u64).wrapping_add(left),
         }
+    }
+
+    /// How many steps are left.
+    fn left(&self) -> u64 {
+        self.limit.wrapping_sub(self.pc as u64)
     }
 
     /// Makes the step at pc a transfer; what is left of the budget goes with it.
     #[inline(always)]
     fn transfer(&mut self, aim: u32) {
-        self.limit = self.limit - (self.pc as u64 + 1) + u64::from(aim);
-        self.window = &self.body[..self.limit.min(self.body.len() as u64) as usize];
-        self.pc = aim as usize;
+        *self = Cursor::new(self.body, aim as usize, self.left() - 1);
     }
 }
 
@@ -120,7 +123,7 @@ fn store<const W: usize>(region: &mut [u8], at: usize, value: [u8; W]) -> Option
 
 // Apart from its caller, whose values would crowd the loop's out of the processor's registers.
 #[inline(never)]
-pub(crate) fn run(parts: &Parts, machine: &mut Machine, region: &mut [u8], budget: u32) -> Run {
+pub(crate) fn run(parts: &Parts, machine: &mut Machine, region: &mut [u8], budget: u64) -> Run {
     let Layout { base, size, .. } = parts.layout;
     let mut ground = Ground {
         layout: parts.layout,
@@ -138,7 +141,7 @@ pub(crate) fn run(parts: &Parts, machine: &mut Machine, region: &mut [u8], budge
     let mut cursor = Cursor::new(body, usize::from(machine.pc), budget);
     let ending = loop {
         let Some(instruction) = cursor.window.get(cursor.pc) else {
-            let (ending, pc) = ground.leave(parts, &registers, cursor.pc, cursor.limit);
+            let (ending, pc) = ground.leave(parts, &registers, cursor.pc, cursor.left());
             cursor.pc = pc;
             break ending;
         };
@@ -211,9 +214,8 @@ pub(crate) fn run(parts: &Parts, machine: &mut Machine, region: &mut [u8], budge
     };
     machine.registers = registers;
     machine.pc = cursor.pc as u16;
-    let left = (cursor.limit - cursor.pc as u64) as u32;
     Run {
         ending,
-        steps: budget - left + u32::from(ending != Ending::OutOfBudget),
+        steps: budget - cursor.left() + u64::from(ending != Ending::OutOfBudget),
     }
 }

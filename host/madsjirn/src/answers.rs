@@ -90,5 +90,5 @@ pub struct Run {
     /// How it ended.
     pub ending: Ending,
     /// How many steps were made, the ending one included.
-    pub steps: u32,
+    pub steps: u64,
 }

@@ -60,7 +60,7 @@ pub fn run(
     machine: &mut Machine,
     memory: &mut [u8],
     offset: usize,
-    budget: u32,
+    budget: u64,
 ) -> Result<Run, Refusal> {
     made(ffi::run(file, machine, memory, offset, budget))
 }

@@ -32,7 +32,7 @@ pub(crate) struct Answer {
     pub(crate) refusal: u32,
     pub(crate) place: u32,
     pub(crate) ending: u32,
-    pub(crate) steps: u32,
+    pub(crate) steps: u64,
 }
 
 /// `madsjirn_written`.
@@ -54,7 +54,7 @@ extern "C" {
         memory: *mut u8,
         memory_length: usize,
         offset: usize,
-        budget: u32,
+        budget: u64,
     ) -> Answer;
     fn madsjirn_step(
         file: *const u8,
@@ -98,7 +98,7 @@ pub(crate) fn run(
     machine: &mut Machine,
     memory: &mut [u8],
     offset: usize,
-    budget: u32,
+    budget: u64,
 ) -> Answer {
     // SAFETY: the pointers are valid for their lengths and not null, since they come from references;
     // `machine` and `memory` are borrowed mutably, so the three do not overlap. `Machine` has the

@@ -42,11 +42,11 @@ assert_members!(
 );
 
 assert_members!(
-    Answer, 16,
+    Answer, 24,
     refusal at 0 with 4,
     place at 4 with 4,
     ending at 8 with 4,
-    steps at 12 with 4
+    steps at 16 with 8
 );
 
 assert_members!(

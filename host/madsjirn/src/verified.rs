@@ -155,7 +155,7 @@ impl<'a> Verified<'a> {
         machine: &mut Machine,
         memory: &mut [u8],
         offset: usize,
-        budget: u32,
+        budget: u64,
     ) -> Result<Run, Refusal> {
         run(self.file, machine, memory, offset, budget)
     }

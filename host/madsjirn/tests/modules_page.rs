@@ -149,7 +149,7 @@ fn run_of(file: &[u8], bytes: &[u8]) -> (Run, Machine) {
     let mut machine = Machine::default();
     let mut region = [0; 4096];
     region[..bytes.len()].copy_from_slice(bytes);
-    let run = module.run(&mut machine, &mut region, 0, u32::MAX);
+    let run = module.run(&mut machine, &mut region, 0, u64::MAX);
     (run.expect("the run is made"), machine)
 }
 

@@ -1,5 +1,5 @@
-//! Accepted modules: document 01's loop, the largest module there can be, a mixed one that never ends, and one whose
-//! claims take long to work out.
+//! Accepted modules: document 01's loop, one that counts its rounds, the largest module there can be, a mixed one that
+//! never ends, and one whose claims take long to work out.
 
 use crate::assembler::*;
 use crate::encode::{claim, test, Instruction, Layout, Module, Target};
@@ -16,7 +16,12 @@ pub fn document_loop() -> Module {
     code.finish()
 }
 
-pub const LOOP_STEPS: u32 = 3074;
+pub const LOOP_STEPS: u64 = 3074;
+
+/// A loop of two instructions that counts its rounds in r0 and never ends by itself.
+pub fn counting() -> Module {
+    Module::known(&[addi(0, 1), jump(0)], &[Target::indirect(0)])
+}
 
 /// 4,096 instructions of all sixteen kinds and 256 targets, in blocks of sixteen instructions with a target each.
 pub fn largest() -> Module {

@@ -103,7 +103,7 @@ pub fn run(
     machine: &mut Machine,
     memory: &mut [u8],
     offset: usize,
-    budget: u32,
+    budget: u64,
 ) -> Ran {
     let Machine { registers, pc } = *machine;
     let mut lent = handwritten::Machine { registers, pc };

@@ -19,7 +19,7 @@ pub type Read = Result<[u32; 5], Refused>;
 pub type Verdict = Result<[u32; 2], Refused>;
 
 /// The ending's number, and the steps.
-pub type Ran = Result<(u32, u32), Refused>;
+pub type Ran = Result<(u32, u64), Refused>;
 
 /// The file's length.
 pub type Written = Result<u32, Refused>;
@@ -103,7 +103,7 @@ impl Side {
         machine: &mut Machine,
         memory: &mut [u8],
         offset: usize,
-        budget: u32,
+        budget: u64,
     ) -> Ran {
         match self {
             Side::Proved => proved::run(file, machine, memory, offset, budget),

@@ -79,7 +79,7 @@ pub fn run(
     machine: &mut Machine,
     memory: &mut [u8],
     offset: usize,
-    budget: u32,
+    budget: u64,
 ) -> Ran {
     lend(machine, |machine| {
         madsjirn::run(file, machine, memory, offset, budget)

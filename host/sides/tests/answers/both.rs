@@ -63,7 +63,7 @@ pub fn run(
     machine: &mut Machine,
     memory: &mut [u8],
     offset: usize,
-    budget: u32,
+    budget: u64,
 ) -> Ran {
     make(machine, memory, |side, machine, memory| {
         side.run(file, machine, memory, offset, budget)

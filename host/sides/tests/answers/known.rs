@@ -19,7 +19,7 @@ fn verdict(module: &Module) -> String {
 }
 
 /// The answer and the machine of a run in a memory of zeros.
-fn run_of(module: &Module, budget: u32) -> (Ran, Machine) {
+fn run_of(module: &Module, budget: u64) -> (Ran, Machine) {
     let mut machine = Machine::default();
     let mut memory = vec![0; 5000];
     let ran = run(&module.to_bytes(), &mut machine, &mut memory, 500, budget);
@@ -120,7 +120,16 @@ fn the_loop() {
     let file = module.to_bytes();
     assert_eq!(read(&file), Ok([0x2000_0000, 4096, 256, 4, 2]));
     assert_eq!(verdict(&module), "accepted 4 2");
-    for budget in [3074, 1 << 31, u32::MAX] {
+    for budget in [
+        3074,
+        1 << 31,
+        (1 << 32) - 1,
+        1 << 32,
+        (1 << 32) + 2,
+        (1 << 63) + 3073,
+        u64::MAX - 1,
+        u64::MAX,
+    ] {
         let (ran, machine) = run_of(&module, budget);
         assert_eq!((ran, machine.pc), (Ok((TRAPPED, 3074)), 1));
         assert_eq!(machine.registers[1], 0x2000_1000);
@@ -135,7 +144,7 @@ fn the_loop_cut_anywhere_ends_the_same() {
         let mut memory = [7; 4096];
         let first = run(&file, &mut machine, &mut memory, 0, budget);
         assert_eq!(first, Ok((OUT_OF_BUDGET, budget)));
-        let second = run(&file, &mut machine, &mut memory, 0, 1 << 31);
+        let second = run(&file, &mut machine, &mut memory, 0, u64::MAX - budget);
         assert_eq!(second, Ok((TRAPPED, 3074 - budget)));
         assert_eq!(machine.registers[..2], [0x0707_0707, 0x2000_1000]);
         assert_eq!(machine.pc, 1);

@@ -1,10 +1,11 @@
 //! Exact answers, the same of both sides: document 01's known outcomes, what document 02's ticket 1 turns and what its
-//! tickets 2, 3 and 5 add, a file for each refusal, each ending, and the files that the gate program is tried on.
+//! tickets 2, 3, 5 and 6 add, a file for each refusal, each ending, and the files that the gate program is tried on.
 
 mod both;
 mod claims;
 mod form;
 mod known;
+mod long;
 mod rule_n;
 mod runs;
 mod signed;
