@@ -21,8 +21,8 @@ static void expect(const char *call, const char *member, uint64_t found, uint64_
     looked_at += 1;
     if (found != due) {
         wrong += 1;
-        printf("  WRONG %s: %s is %" PRIu64 " (%08" PRIx64 " hex) and not %" PRIu64 " (%08" PRIx64 " hex)\n", call, member,
-               found, found, due, due);
+        printf("  WRONG %s: %s is %" PRIu64 " (%08" PRIx64 " hex) and not %" PRIu64 " (%08" PRIx64 " hex)\n", call,
+               member, found, found, due, due);
     }
 }
 

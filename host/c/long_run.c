@@ -1,6 +1,6 @@
 /*
  * A run of more steps than 32 bits count, as of a module left on for a week: document 02's ticket 6. A loop of two
- * instructions counts its rounds in r0. Takes some ten seconds. Exits with 1 if anything differs from what is due.
+ * instructions counts its rounds in r0. Takes some twenty seconds. Exits with 1 if anything differs from what is due.
  */
 #include "madsjirn.h"
 

@@ -78,8 +78,8 @@ pub record HostedEarlier : Type 0 where
       → EntryPost file m memory offset budget seen → seen ≡ run_in earlier_step_bits file m memory offset budget
 
 -- document 02, ticket 6: "The joining of p and q steps now holds up to the wider limit." It is said of whatever three calls answered and
--- left, each by any entry: one that is spent, one that goes on from what it left, and one with both budgets, where their sum
--- fits the bits that the ticket gives a budget.
+-- left, each by any entry: one that is spent, one that goes on from what it left, and one with both budgets, as a host adds them in
+-- the bits that the ticket gives a budget, where their sum fits these.
 pub record HostedJoin : Type 0 where
   pub join : (file : List ℕ) (m : Machine) (memory : List ℕ) (offset first more made : ℕ) (before after one : Seen)
       → first + more < 2 ^ step_bits

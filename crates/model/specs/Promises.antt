@@ -99,7 +99,8 @@ pub record CallsJoin : Type 0 where
 
 -- document 02, ticket 6: "Every 32-bit count carried over means the same number, and every earlier run gives its earlier answer."
 pub record CountsCarried : Type 0 where
-  -- a budget and a count have in the code the bits that the ticket gives them
+  -- "Make budget and step count 64 bits wide in the machine and the answer.": the code's type of both, `Steps`, has the width that is
+  -- spoken of here
   pub width : STEP_BITS ≡ step_bits
   -- a run makes at most its budget of steps, so a count fits wherever its budget does
   pub within : (file : List ℕ) (m : Machine) (memory : List ℕ) (offset budget : ℕ) → steps_in (run_on file m memory offset budget).report ≤ budget

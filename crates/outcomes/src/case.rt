@@ -7,16 +7,17 @@ use super::work::compare;
 use random::Random;
 use std::array;
 
-const ROOM: usize = 700;
+// The bytes of the memory that a run is made in.
+const MEMORY: usize = 700;
 
 // A run, and the memory after it.
 #[derive(Clone, Copy, PartialEq, Eq)]
 struct Made {
     ran: Ran,
-    memory: [u8; ROOM],
+    memory: [u8; MEMORY],
 }
 
-fn make(side: Side, file: &[u8], start: &Start, memory: &[u8; ROOM]) -> Made {
+fn make(side: Side, file: &[u8], start: &Start, memory: &[u8; MEMORY]) -> Made {
     let mut memory = *memory;
     let ran = side.run(file, start, &mut memory);
     Made { ran, memory }
@@ -31,7 +32,7 @@ fn judge(file: &[u8], verdicts: &mut Verdicts) {
 // A run that ends by itself is made again with a larger budget, with which it must be the same.
 fn run(maker: &mut Maker, file: &[u8], runs: &mut Runs) {
     let start = maker.start();
-    let memory: [u8; ROOM] = array::from_fn(|_| (maker.random.next() & 0xff) as u8);
+    let memory: [u8; MEMORY] = array::from_fn(|_| (maker.random.next() & 0xff) as u8);
     let ours = make(Side::Ours, file, &start, &memory);
     let theirs = make(Side::Theirs, file, &start, &memory);
     runs.count(&theirs.ran, ours == theirs);

@@ -1,6 +1,6 @@
-//! How often each refusal, each ending, each turn of a verdict, each kind of signed load, of claims that are worked
-//! out, of tables that are written and of single accesses occurred, so that nothing is believed compared that never
-//! happened.
+//! How often each refusal, each ending, a long budget, each turn of a verdict, each kind of signed load, of claims that
+//! are worked out, of tables that are written and of single accesses occurred, so that nothing is believed compared
+//! that never happened.
 
 use crate::accesses::Accesses;
 use crate::counts::Counts;
@@ -90,8 +90,8 @@ impl Tally {
         }
     }
 
-    /// The refusals, endings, turns, and kinds of signed loads, of claims worked out, of tables written and of accesses
-    /// that never occurred.
+    /// The refusals, endings, long budgets, turns, and kinds of signed loads, of claims worked out, of tables written
+    /// and of accesses that never occurred.
     pub fn missing(&self) -> Vec<String> {
         let refusals = Rule::ALL.into_iter().filter(|rule| {
             let times = self.refusals(rule.number());
