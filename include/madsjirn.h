@@ -14,10 +14,10 @@
  * Nothing is kept between calls: no pointer, no state, no heap. Calls on different machines, memories and buffers may
  * be made at the same time. Each call gets the module's bytes, or its tables, and judges them.
  *
- * The library is built for x86-64 Linux by `rt lib` in crates/madsjirn, which writes out/libmadsjirn.a there:
- * compile with -I include and link that file. A call of madsjirn_work_out writes less than 23,000 bytes below its
- * caller's stack pointer, one of any other function less than 1,000 (measured, not proved: docs/PERFORMANCE.md). No call
- * recurses or makes a system call.
+ * The library is built for x86-64 Linux, on a processor with popcnt (x86-64-v2), by `rt lib` in crates/madsjirn, which
+ * writes out/libmadsjirn.a there: compile with -I include and link that file. A call of madsjirn_work_out writes less
+ * than 24,000 bytes below its caller's stack pointer, one of any other function less than 1,700 (measured, not proved:
+ * docs/PERFORMANCE.md). No call recurses or makes a system call.
  *
  * Answers are numbers: member refusal is 0, or the number of the first rule broken, in the documents' order, and
  * place says where: an offset into the file, or an index, as listed below. Where refusal is 0, place means

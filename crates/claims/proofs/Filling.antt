@@ -14,7 +14,7 @@ use Rattle.model.proofs.Tabulate.{tabulate_same, map-tabulate}
 use Rattle.model.proofs.Tests.{by_cond}
 use Rattle.model.proofs.Claims.FromFile.{claim_unknown}
 use Rattle.reader.specs.Loading.{Loaded}
-use Rattle.reader.proofs.Searches.{table_is}
+use Rattle.lookup.proofs.Listed.{table_is}
 use Rattle.claims.specs.declared.entry.Row.{Row}
 use Rattle.claims.specs.Rows.{entry_of}
 use Rattle.claims.specs.Tables.{row_at, entry_in, entries_in}

@@ -1,12 +1,12 @@
 -- One sweep, index by index: what is known, the table and whether it is changed are the definition's. Assumes nothing.
-use Rattle.std.proofs.Common.{◌≡◌, ℕ, ◌+◌, Bool, false, List, length, Option, Some, None, sym, ap, ◌∙◌, add-one}
+use Rattle.std.proofs.Common.{◌≡◌, ℕ, ◌+◌, Bool, false, List, Option, Some, None, sym, ap, ◌∙◌, add-one}
 use Rattle.model.specs.declared.Ranges.{Ranges}
 use Rattle.model.specs.Ranges.{unknown}
 use Rattle.model.specs.Program.{Program}
+use Rattle.model.specs.Lookup.{number_at}
 use Rattle.model.specs.Claims.{Entry, entry_at, Sweep, claim_else, visit, sweep}
-use Rattle.reader.specs.Lookups.{Rising, Finds}
 use Rattle.claims.specs.declared.entry.Row.{Row}
-use Rattle.claims.specs.Tables.{row_at, entries_in, table_in, sweep_in}
+use Rattle.claims.specs.Tables.{row_at, entries_in, table_in, sweep_in, listed}
 use Rattle.claims.proofs.Arriving.{entry_there, no_entry}
 
 -- the sweep over the first i instructions, once more; and with what the target at the next index claims
@@ -21,8 +21,7 @@ module _ {p : Program} {targets : List ℕ} where
   unfolding sweep
   sweep_starts rows nothing = record { is = rw nothing }
 
-  module _ {es : List Entry} {known : Option Ranges} {rows : List Row} {changed : Bool} {i : ℕ} (so : So p targets es known rows changed i)
-      (rises : Rising targets (length rows)) where
+  module _ {es : List Entry} {known : Option Ranges} {rows : List Row} {changed : Bool} {i : ℕ} (so : So p targets es known rows changed i) where
     enters : {known' : Option Ranges} → known' ≡ claim_else (known) (entry_at (entries_in targets rows) i) → Entered p targets es known' rows changed i
     unfolding sweep
     enters told = record {
@@ -31,12 +30,12 @@ module _ {p : Program} {targets : List ℕ} where
           ∙ ap (λ (s : Sweep). visit p i (claim_else s.known (entry_at s.table.entries i)) s.table) so.is);
     }
 
-    pub takes_claim : (j : ℕ) → Finds targets (length rows) i (Some j) → {known' : Option Ranges} → known' ≡ (row_at rows j).claim
+    pub takes_claim : (j : ℕ) → Some j ≡ number_at (listed targets rows) i → {known' : Option Ranges} → known' ≡ (row_at rows j).claim
         → Entered p targets es known' rows changed i
-    takes_claim j finds is = enters (rw is (sym (ap (claim_else (known)) (entry_there targets rows rises i j finds))))
+    takes_claim j finds is = enters (rw is (sym (ap (claim_else (known)) (entry_there targets rows i j finds))))
 
-    pub takes_nothing : Finds targets (length rows) i None → {known' : Option Ranges} → known' ≡ known → Entered p targets es known' rows changed i
-    takes_nothing finds same = enters (rw same (sym (ap (claim_else (known)) (no_entry targets rows rises i finds))))
+    pub takes_nothing : None ≡ number_at (listed targets rows) i → {known' : Option Ranges} → known' ≡ known → Entered p targets es known' rows changed i
+    takes_nothing finds same = enters (rw same (sym (ap (claim_else (known)) (no_entry targets rows i finds))))
 
   module _ {es : List Entry} {known : Option Ranges} {rows : List Row} {changed : Bool} {i : ℕ} (entered : Entered p targets es known rows changed i) where
     pub sweep_visits : {before : Ranges} → known ≡ Some before → {known' : Option Ranges} {rows' : List Row} {changed' : Bool}

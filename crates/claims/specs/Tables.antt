@@ -1,7 +1,8 @@
 -- The table, a row for each of a module's targets, in the model's terms. Assumes nothing.
 use Rattle.std.specs.Prelude.{Some, ℕ, ◌≡◌, Bool, List, [], eqb, length, get_or, Option, None}
 use Rattle.model.specs.declared.Ranges.{Ranges}
-use Rattle.model.specs.File.{tabulate, target_index, target_kind}
+use Rattle.model.specs.declared.Target.{Target}
+use Rattle.model.specs.File.{tabulate, target_index, target_kind, target_in}
 use Rattle.model.specs.Claims.{Entry, Table, arrive, Sweep}
 use Rattle.reader.specs.declared.module.Module.{Module}
 use Rattle.reader.specs.Loading.{Loaded}
@@ -11,6 +12,10 @@ use Rattle.claims.specs.Rows.{entry_of}
 -- the table has a row for each target of a module that was read
 abbrev pub HasRows : Module → List Row → Type 0
 HasRows m rows = Loaded m.layout m.code.now m.targets.now m.held.instructions m.held.targets × (length rows ≡ m.held.targets)
+
+-- the targets that the table has rows for
+abbrev pub listed : List ℕ → List Row → List Target
+listed targets rows = tabulate 0 (length rows) (target_in targets)
 
 -- the row of a number; past the end there is none, and its growth is empty
 abbrev pub row_at : List Row → ℕ → Row

@@ -4,26 +4,27 @@
 // The targets' bytes and the rows are passed side by side, as two slices. Of a struct of both each contract would have to say that its
 // bytes, and how many rows it has, stay; of a slice that is known. That there are few rows is asked where a row's number is made, since
 // a struct has no ghost field beside a `&mut`.
-ghost use Rattle.std.specs.Prelude.{◌≡◌, cond, false, Option, Some, None, List, length, map, ℕ, ◌≤◌, ◌<◌, is_none};
+ghost use Rattle.std.specs.Prelude.{◌≡◌, cond, false, Option, Some, None, List, length, map, ℕ, ◌≤◌, ◌<◌, is_none, option_and_then};
 ghost use Rattle.std.specs.List.{position};
 ghost use Rattle.model.specs.declared.Layout.{Layout};
 ghost use Rattle.model.specs.Ranges.{region_range};
 ghost use Rattle.model.specs.Program.{Program, code_at};
 ghost use Rattle.model.specs.File.{program_of};
+ghost use Rattle.model.specs.Lookup.{number_at};
 ghost use Rattle.model.specs.Claims.{begun, visit, swept, counted, given, code_of, worked_out};
 ghost use Rattle.model.specs.Promises.{AreBytes};
-ghost use Rattle.reader.specs.Lookups.{Rising, FindsNamed};
 ghost use Rattle.reader.specs.Loading.{Loaded};
 ghost use Rattle.reader.specs.Readings.{program};
 ghost use Rattle.claims.specs.declared.entry.Row.{Row};
 ghost use Rattle.claims.specs.Rows.{FewGrown};
-ghost use Rattle.claims.specs.Tables.{row_at, entries_in, table_in, sweep_in, along, HasRows};
+ghost use Rattle.claims.specs.Tables.{row_at, entries_in, table_in, sweep_in, along, listed, HasRows};
 
 use crate::entry::Row;
+use lookup::{GROUPS, Indexed};
 use model::{Instruction, Range, Ranges};
 use ranges::{edges, knowledge};
 use reader::module::Module;
-use reader::{decode, lookup, target};
+use reader::{decode, target};
 use verifier::{rules, verify};
 
 // "Open doors are reached with their fixed claim; inner ones begin unreached."
@@ -46,7 +47,7 @@ fn arrive(
     rows: &mut [Row],
 ) -> bool
     requires { (j : ℕ) → there ≡ Some j → j < length rows.old }
-    ensures { (to : Option ℕ) → Rising targets.now (length rows.old) → FindsNamed targets.now (length rows.old) to there → table_in targets.now rows.new result ≡ along to ranges (table_in targets.now rows.old changed) }
+    ensures { (to : Option ℕ) → there ≡ option_and_then (number_at (listed targets.now rows.old)) to → table_in targets.now rows.new result ≡ along to ranges (table_in targets.now rows.old changed) }
 {
     // "Edges to what is no door are passed over"
     let Some(number) = there else {
@@ -69,7 +70,7 @@ struct Passed {
 
 // The edges of an instruction: "A branch's taken edge comes before its next one."
 fn visit(
-    targets: &[u8],
+    indexed: &Indexed,
     region: Range,
     i: u32,
     instruction: Instruction,
@@ -77,11 +78,11 @@ fn visit(
     changed: bool,
     rows: &mut [Row],
 ) -> Passed
-    requires { (i < 4096) × (length rows.old ≤ 256) }
-    ensures { (p : Program) → instruction ≡ code_at p i → region ≡ region_range p.layout → Rising targets.now (length rows.old) → sweep_in targets.now result.known rows.new result.changed ≡ visit p i (Some known) (table_in targets.now rows.old changed) }
+    requires { (i < 4096) × HasRows indexed.now.«module» rows.old }
+    ensures { (p : Program) → instruction ≡ code_at p i → region ≡ region_range p.layout → sweep_in indexed.now.«module».targets.now result.known rows.new result.changed ≡ visit p i (Some known) (table_in indexed.now.«module».targets.now rows.old changed) }
 {
-    let k = rows.len() as u32;
-    let named = rules::target_named(targets, k, instruction);
+    let targets = indexed.module.targets;
+    let named = rules::target_named(indexed, instruction);
     let taken = edges::after_taken(instruction, known);
     let changed = arrive(targets, named, taken, changed, rows);
     if !rules::falls(instruction) {
@@ -91,7 +92,7 @@ fn visit(
         };
     }
     let next = edges::after_next(region, instruction, known);
-    let there = lookup::find(targets, k, (i + 1) as usize);
+    let there = indexed.number_at((i + 1) as usize);
     Passed {
         changed: arrive(targets, there, next, changed, rows),
         known: Some(next),
@@ -99,23 +100,23 @@ fn visit(
 }
 
 // One sweep, upward through the code: whether it changes anything.
-fn sweep(module: &Module, rows: &mut [Row]) -> bool
-    requires { HasRows «module».now rows.old }
-    ensures { table_in «module».now.targets.now rows.new result ≡ swept (code_of (program «module».now)) (entries_in «module».now.targets.now rows.old) }
+fn sweep(indexed: &Indexed, rows: &mut [Row]) -> bool
+    requires { HasRows indexed.now.«module» rows.old }
+    ensures { table_in indexed.now.«module».targets.now rows.new result ≡ swept (code_of (program indexed.now.«module»)) (entries_in indexed.now.«module».targets.now rows.old) }
 {
-    let targets = module.targets;
+    let module = &indexed.module;
     let region = verify::region_of(module.layout);
     // What is known, if anything is; "starting with anything".
     let mut known = Some(knowledge::unknown());
     let mut changed = false;
     for i in 0..module.held.instructions {
         // "At a door it takes the claim."
-        if let Some(number) = lookup::find(targets, module.held.targets, i as usize) {
+        if let Some(number) = indexed.number_at(i as usize) {
             known = rows[number as usize].claim;
         }
         if let Some(before) = known {
             let passed = visit(
-                targets,
+                indexed,
                 region,
                 i,
                 decode::fetch(module.code, i),
@@ -159,17 +160,27 @@ fn give_lowest(rows: &mut [Row]) -> bool
     true
 }
 
-// Sweep after sweep. On its own, so that what it needs of the stack is free again when the verifier runs.
-#[inline(never)]
-pub(crate) fn sweep_all(module: &Module, rows: &mut [Row])
-    requires { HasRows «module».now rows.old × AreBytes «module».now.code.now × (entries_in «module».now.targets.now rows.old ≡ map begun (program «module».now).targets) }
-    ensures { entries_in «module».now.targets.now rows.new ≡ (worked_out (program «module».now)).entries }
+// Sweep after sweep.
+fn sweep_to_end(indexed: &Indexed, rows: &mut [Row])
+    requires { HasRows indexed.now.«module» rows.old × AreBytes indexed.now.«module».code.now × (entries_in indexed.now.«module».targets.now rows.old ≡ map begun (program indexed.now.«module»).targets) }
+    ensures { entries_in indexed.now.«module».targets.now rows.new ≡ (worked_out (program indexed.now.«module»)).entries }
 {
     'sweeps: loop {
-        if sweep(module, rows) {
+        if sweep(indexed, rows) {
             count_growth(rows);
         } else if !give_lowest(rows) {
             return;
         }
     }
+}
+
+// The same, by tables made for it. On its own, so that what it needs of the stack is free again when the verifier runs.
+#[inline(never)]
+pub(crate) fn sweep_all(module: &Module, rows: &mut [Row])
+    requires { HasRows «module».now rows.old × AreBytes «module».now.code.now × (entries_in «module».now.targets.now rows.old ≡ map begun (program «module».now).targets) }
+    ensures { entries_in «module».now.targets.now rows.new ≡ (worked_out (program «module».now)).entries }
+{
+    let mut bits = [0; GROUPS];
+    let mut counts = [0; GROUPS];
+    sweep_to_end(&Indexed::of(*module, &mut bits, &mut counts), rows);
 }

@@ -1,4 +1,4 @@
--- Where a step goes: to the next index, or to a target that the search found, by the tests of the definitions. Assumes nothing.
+-- Where a step goes: to the next index, or to a target that the lookup found, by the tests of the definitions. Assumes nothing.
 use Rattle.std.specs.Prelude.{◌≡◌, ℕ, ◌+◌, ◌-◌, ◌<◌, ◌≤◌, Bool, true, false, eqb, List, Option, None, Some, Ok, Err, MatchOption}
 use Rattle.std.specs.Option.{is_some}
 use mathlib.Core.Path.{refl}
@@ -7,7 +7,7 @@ use borrow.Author.Tests.{lt-ltb, le-ltb}
 use Rattle.model.specs.declared.Ending.TheVariants.{Violated}
 use Rattle.model.specs.Quantifiers.{any_of}
 use Rattle.model.specs.File.{target_in, target_kind}
-use Rattle.reader.specs.Lookups.{target_found}
+use Rattle.lookup.specs.Found.{target_found}
 use Rattle.reader.specs.declared.module.Module.{Module}
 use Rattle.machine.specs.Core.{onward_of}
 use Rattle.reader.specs.Readings.{program}
@@ -22,7 +22,7 @@ module _ (m : Module) (pc : ℕ) where
   unfolding onward_of
   strays_onward past = rw (program_count m, le-ltb (pc + 1) m.held.instructions (omega arith))
 
--- that a search found a target, and an indirect one
+-- that a lookup found a target, and an indirect one
 pub found_some : (targets : List ℕ) (found : Option ℕ) → is_some found ≡ any_of (target_found targets found) (λ t. true)
 unfolding target_found
 found_some targets None = refl

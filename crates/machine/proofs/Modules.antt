@@ -18,6 +18,7 @@ use Rattle.model.specs.declared.Target.{Target}
 use Rattle.model.specs.Words.{modulus}
 use Rattle.model.specs.Quantifiers.{any_of}
 use Rattle.model.specs.Program.{code_at, target_at}
+use Rattle.model.specs.Lookup.{number_at}
 use Rattle.model.specs.File.{instruction_at, instruction_in, instruction_count}
 use Rattle.model.specs.Rules.{LayoutKept, InstructionKept}
 use Rattle.model.specs.Step.{step}
@@ -26,10 +27,10 @@ use Rattle.model.proofs.Targets.{readable_steady, code_at_lem}
 use Rattle.model.proofs.Values.{least_size, most_size}
 use Rattle.reader.specs.Decoding.{Fetches}
 use Rattle.reader.specs.Loading.{Loaded}
-use Rattle.reader.specs.Lookups.{target_found, Finds}
 use Rattle.reader.specs.declared.module.Module.{Module}
 use Rattle.reader.proofs.Fetching as Fetching
-use Rattle.reader.proofs.Searches.{found_target}
+use Rattle.lookup.specs.Found.{target_found}
+use Rattle.lookup.proofs.Listed.{found_target}
 use Rattle.reader.specs.Readings.{program}
 
 -- what the layout of a module keeps, in numbers
@@ -82,11 +83,11 @@ module _ (m : Module) where
           let kept : InstructionKept (instruction_in m.code.now i) = h.kept.each_instruction i (omega (arith, Fetching.counted h)) in
           none-some _ (sym is ∙ kept.1)))
 
-  -- what is asked of the target that a search found is asked of the one that the program has
-  pub asked_of_found : (to : ℕ) (found : Option ℕ) → Finds m.targets.now m.held.targets to found → (test : Target → Bool)
+  -- what is asked of the target that a lookup found is asked of the one that the program has
+  pub asked_of_found : (to : ℕ) (found : Option ℕ) → found ≡ number_at (program m).targets to → (test : Target → Bool)
       → any_of (target_found m.targets.now found) test ≡ any_of (target_at (program m).targets to) test
-  asked_of_found to found finds test =
-      ∥∥₁_elim m.loaded (Bool-set _ _) (λ h. ap (λ (t : Option Target). any_of t test) (found_target h to found finds))
+  asked_of_found to found is test =
+      ∥∥₁_elim m.loaded (Bool-set _ _) (λ h. ap (λ (t : Option Target). any_of t test) (found_target h to found is))
 
   -- a step of it keeps the pc inside and the region's length, and the pc where it ends the run
   module _ (s : Machine) (bs : List ℕ) (inside : s.pc < m.held.instructions) where

@@ -5,9 +5,10 @@ ghost use Rattle.model.specs.Program.{is_target, is_indirect};
 ghost use Rattle.machine.specs.Core.{onward_of, jump_of, jump_via_of};
 ghost use Rattle.reader.specs.Readings.{program};
 
+use lookup::Indexed;
 use model::Ending;
 use reader::module::Module;
-use reader::{lookup, target};
+use reader::target;
 
 // "Other steps go to the next index, and stray if that is n."
 pub(crate) fn onward(m: &Module, pc: usize) -> Result<usize, Ending>
@@ -21,30 +22,34 @@ pub(crate) fn onward(m: &Module, pc: usize) -> Result<usize, Ending>
     }
 }
 
-fn is_target(m: &Module, to: usize) -> bool
-    ensures { result ≡ is_target (program m.now).targets to }
+fn is_target(indexed: &Indexed, to: usize) -> bool
+    ensures { result ≡ is_target (program indexed.now.«module»).targets to }
 {
-    lookup::find(m.targets, m.held.targets, to).is_some()
+    indexed.number_at(to).is_some()
 }
 
-pub(crate) fn is_indirect(m: &Module, to: usize) -> bool
-    ensures { result ≡ is_indirect (program m.now).targets to }
+pub(crate) fn is_indirect(indexed: &Indexed, to: usize) -> bool
+    ensures { result ≡ is_indirect (program indexed.now.«module»).targets to }
 {
-    lookup::find(m.targets, m.held.targets, to).is_some_and(|j| target::is_indirect(m.targets, j))
+    indexed
+        .number_at(to)
+        .is_some_and(|j| target::is_indirect(indexed.module.targets, j))
 }
 
 // "A jump or taken branch goes to a door, else it strays." This and the next are two sentences of document 01, a line each.
 #[tactic(auto, unfolding(crate::specs::Core::jump_of))]
-pub(crate) fn jump(m: &Module, to: usize) -> Result<usize, Ending>
-    ensures { result ≡ jump_of (program m.now) to }
+pub(crate) fn jump(indexed: &Indexed, to: usize) -> Result<usize, Ending>
+    ensures { result ≡ jump_of (program indexed.now.«module») to }
 {
-    is_target(m, to).then_some(to).ok_or(Ending::Violated)
+    is_target(indexed, to).then_some(to).ok_or(Ending::Violated)
 }
 
 // "A jumpr goes to an open door, else it strays."
 #[tactic(auto, unfolding(crate::specs::Core::jump_via_of))]
-pub(crate) fn jump_via(m: &Module, to: usize) -> Result<usize, Ending>
-    ensures { result ≡ jump_via_of (program m.now) to }
+pub(crate) fn jump_via(indexed: &Indexed, to: usize) -> Result<usize, Ending>
+    ensures { result ≡ jump_via_of (program indexed.now.«module») to }
 {
-    is_indirect(m, to).then_some(to).ok_or(Ending::Violated)
+    is_indirect(indexed, to)
+        .then_some(to)
+        .ok_or(Ending::Violated)
 }

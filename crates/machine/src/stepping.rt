@@ -1,7 +1,7 @@
 // The core: one step with the registers and the region lent, and the loop of a run over it.
-// Module, pc, registers and region stay apart: a record passed by value from helper to helper costs several copies a step, a struct of
-// the module and the pc alone would be no plainer, since jumps go by the module alone, and document 01 has the part of the memory itself
-// lent to the step, so that its length stands in what is required (a struct that lends it can have no ghost field).
+// The module with its tables, pc, registers and region stay apart: a record passed by value from helper to helper costs several copies a
+// step, a struct of the module and the pc would be no plainer, since jumps go by the module alone, and document 01 has the part of the
+// memory itself lent to the step, so that its length stands in what is required (a struct that lends it can have no ghost field).
 ghost use Rattle.std.specs.Prelude.{◌≡◌, ◌<◌, length};
 ghost use Rattle.model.specs.Step.{step_of, step};
 ghost use Rattle.model.specs.Run.{run};
@@ -11,20 +11,21 @@ ghost use Rattle.reader.specs.Readings.{program};
 use crate::operations::assign;
 use crate::registers::get;
 use crate::{operations, places};
+use lookup::Indexed;
 use model::{Answer, Ending, Instruction, Machine, Outcome, Steps};
-use reader::module::Module;
 
 // One instruction.
 fn execute(
-    m: &Module,
+    indexed: &Indexed,
     instruction: Instruction,
     pc: usize,
     registers: &mut [u32; 8],
     region: &mut [u8],
 ) -> Result<usize, Ending>
-    requires { length region.old ≡ m.now.layout.size }
-    ensures { StepPost (step_of (program m.now) instruction (record { registers = registers.entry.now; pc = pc }) region.old) result registers.exit.now region.new }
+    requires { length region.old ≡ indexed.now.«module».layout.size }
+    ensures { StepPost (step_of (program indexed.now.«module») instruction (record { registers = registers.entry.now; pc = pc }) region.old) result registers.exit.now region.new }
 {
+    let m = &indexed.module;
     match instruction {
         Instruction::Halt => Err(Ending::Halted),
         Instruction::Set { a, imm } => assign(m, pc, registers, a, imm),
@@ -85,19 +86,19 @@ fn execute(
             let address = words::arithmetic::displaced(y, imm);
             operations::store(m, pc, region, x, width, address)
         }
-        Instruction::Jump { to } => places::jump(m, to),
+        Instruction::Jump { to } => places::jump(indexed, to),
         Instruction::Branch { a, b, test, to } => {
             let x = get(registers, a);
             let y = get(registers, b);
             if operations::is_met(test, x, y) {
-                places::jump(m, to)
+                places::jump(indexed, to)
             } else {
                 places::onward(m, pc)
             }
         }
         Instruction::Check { a } => {
             let x = get(registers, a);
-            if places::is_indirect(m, x as usize) {
+            if places::is_indirect(indexed, x as usize) {
                 places::onward(m, pc)
             } else {
                 Err(Ending::Denied)
@@ -105,19 +106,24 @@ fn execute(
         }
         Instruction::Jumpr { a } => {
             let x = get(registers, a);
-            places::jump_via(m, x as usize)
+            places::jump_via(indexed, x as usize)
         }
     }
 }
 
 // One step.
-fn step(m: &Module, pc: usize, registers: &mut [u32; 8], region: &mut [u8]) -> Result<usize, Ending>
-    requires inside { pc < m.now.held.instructions }
-    requires room { length region.old ≡ m.now.layout.size }
-    ensures { StepPost (step (program m.now) (record { registers = registers.entry.now; pc = pc }) region.old) result registers.exit.now region.new }
+fn step(
+    indexed: &Indexed,
+    pc: usize,
+    registers: &mut [u32; 8],
+    region: &mut [u8],
+) -> Result<usize, Ending>
+    requires inside { pc < indexed.now.«module».held.instructions }
+    requires room { length region.old ≡ indexed.now.«module».layout.size }
+    ensures { StepPost (step (program indexed.now.«module») (record { registers = registers.entry.now; pc = pc }) region.old) result registers.exit.now region.new }
 {
-    let instruction = reader::decode::fetch(m.code, pc as u32);
-    execute(m, instruction, pc, registers, region)
+    let instruction = reader::decode::fetch(indexed.module.code, pc as u32);
+    execute(indexed, instruction, pc, registers, region)
 }
 
 // A run that ended.
@@ -138,15 +144,20 @@ fn ended(registers: [u32; 8], pc: usize, ending: Ending, steps: Steps) -> Outcom
 }
 
 // Steps until one ends the run or the budget is used.
-pub(crate) fn run_in(m: &Module, machine: Machine, region: &mut [u8], budget: Steps) -> Outcome
-    requires inside { machine.pc < m.now.held.instructions }
-    requires room { length region.old ≡ m.now.layout.size }
-    ensures { LoopPost (run (program m.now) budget machine region.old) result region.new }
+pub(crate) fn run_in(
+    indexed: &Indexed,
+    machine: Machine,
+    region: &mut [u8],
+    budget: Steps,
+) -> Outcome
+    requires inside { machine.pc < indexed.now.«module».held.instructions }
+    requires room { length region.old ≡ indexed.now.«module».layout.size }
+    ensures { LoopPost (run (program indexed.now.«module») budget machine region.old) result region.new }
 {
     let mut registers = machine.registers;
     let mut pc = usize::from(machine.pc);
     for made in 0..budget {
-        match step(m, pc, &mut registers, region) {
+        match step(indexed, pc, &mut registers, region) {
             Ok(to) => pc = to,
             Err(ending) => return ended(registers, pc, ending, made + 1),
         }

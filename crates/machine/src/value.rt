@@ -3,6 +3,7 @@ ghost use Rattle.model.specs.Run.{RunPost};
 ghost use Rattle.machine.specs.Core.{seen_of, seen_by};
 
 use crate::stepping;
+use lookup::{GROUPS, Indexed};
 use model::{Answer, Machine, Outcome, Refusal, Rule, Steps};
 
 // Refusals 1 to 7, then 14, then 15, then the steps.
@@ -25,7 +26,10 @@ fn run_if_kept(
         return Err(Rule::NoRoom.at(0));
     }
     let end = offset + size;
-    Ok(stepping::run_in(&module, machine, &mut memory[offset..end], budget))
+    let mut bits = [0; GROUPS];
+    let mut counts = [0; GROUPS];
+    let indexed = Indexed::of(module, &mut bits, &mut counts);
+    Ok(stepping::run_in(&indexed, machine, &mut memory[offset..end], budget))
 }
 
 // A run of the module in `file`, on the region that begins at `offset` of the memory, with a budget of steps.

@@ -12,6 +12,7 @@ pub mod Stretches
 pub mod Memory
 pub mod Steady
 pub mod Targets
+pub mod Lookup
 pub mod Joining
 pub mod JoiningCalls
 pub mod Counts

@@ -5,11 +5,11 @@
 -- Reading order, each file after those that it stands on: Words (bytes, words, wrapping, the signed reading); Ranges (rule W, cuts,
 -- rule B); Program; Instructions (the table, both columns, one row an opcode; rule N); Step (access, places, the listed step); File
 -- (fields, layout, instructions, targets, refusals 1 to 7); Obligations (what is judged, and "the first rule broken and where");
--- Judgement (rules 8 to 13 and the verdict); Claims (claims that are worked out: document 02, ticket 3); Writer (files that are
--- written: ticket 5); Rules (every rule again, stated by itself, with no order and no test in it); Answers (numbers of refusals and
--- endings); Run (the run, and 14 and 15); Counts (the width of budgets and counts: ticket 6); Walk; Safety (demand 3); Accuracy (the
--- ranges are right); Clauses (demand 3 for two calls, clause by clause); Outcomes, Walks, Loop, Worked and Wrote (known outcomes); Line
--- (what the gate program prints); Promises (every promise as a type, demand by demand).
+-- Judgement (rules 8 to 13 and the verdict); Lookup (how a target is found: document 02, ticket 7); Claims (claims that are worked
+-- out: ticket 3); Writer (files that are written: ticket 5); Rules (every rule again, stated by itself, with no order and no test in
+-- it); Answers (numbers of refusals and endings); Run (the run, and 14 and 15); Counts (the width of budgets and counts: ticket 6);
+-- Walk; Safety (demand 3); Accuracy (the ranges are right); Clauses (demand 3 for two calls, clause by clause); Outcomes, Walks,
+-- Loop, Worked and Wrote (known outcomes); Line (what the gate program prints); Promises (every promise as a type, demand by demand).
 -- Quantifiers has four small tests.
 --
 -- The documents' words and ours: a door is a target, open indirect, inner direct; the machine record is the Machine, its place the pc;
@@ -38,6 +38,7 @@ pub mod Instructions
 pub mod Step
 pub mod File
 pub mod Judgement
+pub mod Lookup
 pub mod Claims
 pub mod Writer
 pub mod Run

@@ -14,14 +14,16 @@ use Rattle.model.specs.Words.{modulus, signed, signed_from}
 use Rattle.model.specs.Instructions.{carried}
 use Rattle.model.specs.Obligations.{Fault, fault, first_fault, FirstUnmet}
 use Rattle.model.specs.Answers.{accepted, refused, ended, rejected, steps_in}
+use Rattle.model.specs.declared.Target.{Target}
 use Rattle.model.specs.Program.{Program}
 use Rattle.model.specs.Step.{in_region, in_zones, step}
-use Rattle.model.specs.File.{byte_at, code_in, instruction_count, InstructionRow, decoded, program_in}
+use Rattle.model.specs.File.{byte_at, most_instructions, code_in, instruction_count, InstructionRow, decoded, program_in}
 use Rattle.model.specs.Judgement.{obligations, first_broken, judgement}
 use Rattle.model.specs.Claims.{begun, swept, given, sweeping, most_sweeps, code_of, worked_out, with_claims, reclaimed, claimed, finished_file, work_out}
 use Rattle.model.specs.Rules.{FileKept, FilePlaced, KeepsEveryRule, Runnable}
 use Rattle.model.specs.Run.{Seen, runnable, run_on, RunPost, seen_after}
 use Rattle.model.specs.Counts.{step_bits, earlier_step_bits, run_in}
+use Rattle.model.specs.Lookup.{Rising, found_at, AsListed}
 use Rattle.model.specs.Walk.{Call, walk, seen_in, Called}
 use Rattle.model.specs.Safety.{Fed, EightWords, InZones, InRegionOf}
 use Rattle.model.specs.Writer.{Tables, instruction_row_at, target_row_at, encoded, program_from, tables_in, file_of, tables_owed, writable, tables_judged, wrote, unwritten, write}
@@ -125,6 +127,11 @@ pub record LongRuns : Type 0 where
       → (run_on counting (record { registers = registers; pc = 0 }) memory 0 budget).report ≡ ended OutOfBudget budget
   pub cut : ((run_in earlier_step_bits counting start zeros 0 0x1_0000_0002).report ∷ (run_in step_bits counting start zeros 0 0x1_0000_0002).report ∷ [])
       ≡ ended OutOfBudget 2 ∷ ended OutOfBudget 0x1_0000_0002 ∷ []
+
+-- document 02, ticket 7: "For every list whose indexes rise strictly and are below n, and every index, also one at or past n, the answer
+-- equals that of the plain list."
+pub record FoundAtOnce : Type 0 where
+  pub found : (n : ℕ) → n ≤ most_instructions → (ts : List Target) → Rising n ts → (i : ℕ) → AsListed ts i (found_at n ts i)
 
 -- "P1 to P12 are proved as one table by one claim about the definitions.": in every row they give what document 01 says
 pub record KnownOutcomes : Type 0 where

@@ -126,8 +126,10 @@ pub struct FileIn<const N: usize> {
     pub length: usize,
 }
 
-// Long enough for all modules but those of limit.rt.
+// Long enough for most modules here, and for every module and one door or instruction more.
 pub type File = FileIn<1024>;
+
+pub type LongFile = FileIn<50400>;
 
 // Where instruction i begins, and the third field where the instructions are i.
 pub(crate) fn instruction_at(i: u32) -> usize

@@ -1,5 +1,8 @@
 // The known cases, group by group: how many there are, and how many each implementation answers as documents 01 and 02
 // say.
+use super::doors::{
+    CHANGED, LOOKUPS, MISPLACED, changed_row, judged_row, misplaced_row, stepped_row, widened_row,
+};
 use super::edge::{access_row, cut_row, range_row, width_row};
 use super::known::{BUDGETS, budget_row};
 use super::limit::{CHAINS, COUNTS, chain_row, count_row};
@@ -61,11 +64,21 @@ fn steps(rt: &impl Print) -> io::Result<()> {
     group(rt, "budgets past 32 bits", &BUDGETS, budget_row)
 }
 
+// Doors by groups of 64 indexes.
+fn lookups(rt: &impl Print) -> io::Result<()> {
+    group(rt, "jumps to doors in groups of 64", &LOOKUPS, judged_row)?;
+    group(rt, "steps to doors in groups of 64", &LOOKUPS, stepped_row)?;
+    group(rt, "claims of doors in groups of 64", &LOOKUPS, widened_row)?;
+    group(rt, "code at doors in groups of 64", &CHANGED, changed_row)?;
+    group(rt, "doors that are out of place", &MISPLACED, misplaced_row)
+}
+
 pub(crate) fn groups(rt: &impl Print) -> io::Result<()> {
     ranges(rt)?;
     judgements(rt)?;
     steps(rt)?;
     group(rt, "widths of loads and stores", &WIDTHS, width_row)?;
     group(rt, "claims that are worked out", &MODULES, claims_row)?;
-    group(rt, "claims of 256 doors", &CHAINS, chain_row)
+    group(rt, "claims of 256 doors", &CHAINS, chain_row)?;
+    lookups(rt)
 }

@@ -1,15 +1,15 @@
 // The longest fields, and one instruction or door more. A door's claim of 0 to 0 is no hindrance after a halt. And as
 // many doors as there may be, with claims that are worked out.
 use super::answer::Fault;
-use super::build::{FileIn, Kind, Layout, Op, immediate, instruction_at};
+use super::build::{Kind, Layout, LongFile, Op, immediate, instruction_at};
 use super::edge::DB;
 use super::score::Score;
 use super::side::Side;
 
 // Instructions from `checks` - 1 up are checks, and the others halt. Door j is at j; the first is open and claims
 // anything, and the others are inner.
-fn long(n: u32, k: u32, checks: u32) -> FileIn<50400> {
-    let mut file = FileIn::new(Layout::from([DB, 256, 256]), n, k);
+fn long(n: u32, k: u32, checks: u32) -> LongFile {
+    let mut file = LongFile::new(Layout::from([DB, 256, 256]), n, k);
     for i in checks..n {
         file.put::<1>(instruction_at(i) - 8, Op::Check as u32);
     }

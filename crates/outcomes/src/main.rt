@@ -7,6 +7,7 @@ mod build;
 mod case;
 mod code;
 mod damage;
+mod doors;
 mod edge;
 mod garble;
 mod generate;

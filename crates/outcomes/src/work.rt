@@ -1,11 +1,16 @@
 // Claims that are worked out by both implementations, as ticket 3 of document 02 has it.
 use super::answer::Verdict;
-use super::build::File;
+use super::build::{File, FileIn};
 use super::side::Side;
 use super::tally::Worked;
 
 // Whether this is the answer, and these the bytes afterwards.
-pub(crate) fn works_out(side: Side, given: &File, answer: Verdict, after: &File) -> bool {
+pub(crate) fn works_out<const N: usize>(
+    side: Side,
+    given: &FileIn<N>,
+    answer: Verdict,
+    after: &FileIn<N>,
+) -> bool {
     let mut file = *given;
     side.work_out(file.as_mut_slice()) == answer && file == *after
 }

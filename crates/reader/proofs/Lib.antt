@@ -2,9 +2,6 @@ pub mod Lengths
 pub mod Judging
 pub mod Layouts
 pub mod Targets
-pub mod Searches
-pub mod Halving
-pub mod Cursor
 pub mod Checking
 pub mod Passes
 pub mod Rows

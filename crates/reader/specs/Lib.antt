@@ -1,7 +1,5 @@
 pub mod Findings
 pub mod Fields
 pub mod Decoding
-pub mod Lookups
 pub mod Loading
 pub mod Readings
-pub mod Marks

@@ -6,7 +6,6 @@ pub mod decode;
 pub mod field;
 pub mod finding;
 pub mod layout;
-pub mod lookup;
 pub mod module;
 pub mod read;
 pub mod target;

@@ -3,7 +3,7 @@ use Prim.Native.Nat.{ℕ, zero, suc, ◌+◌, ◌-◌}
 use mathlib.Core.Path.{◌≡◌, refl, sym, ap, ap₂, ◌∙◌}
 use mathlib.Core.Bool.{Bool, true, false, not, ◌&&◌, ◌||◌}
 use mathlib.Core.List.{List}
-use Rattle.std.specs.Prelude.{Option, None, Some, is_some, MatchOption, IsTrue}
+use Rattle.std.specs.Prelude.{Option, None, Some, is_some, option_and_then, MatchOption, IsTrue}
 use Rattle.std.proofs.Props.{props}
 use Rattle.std.proofs.Math.Logic.{∥∥₁_elim}
 use native.Mathlib.Omega.{arith}
@@ -16,23 +16,24 @@ use Rattle.model.specs.Quantifiers.{all_of, any_of}
 use Rattle.model.specs.Ranges.{range_of, lies_within}
 use Rattle.model.specs.Program.{Program, code_at, target_at, is_target}
 use Rattle.model.specs.Instructions.{shape, traits, after_taken}
+use Rattle.model.specs.Lookup.{number_at}
 use Rattle.model.specs.File.{claim_in, target_in, program_of}
 use Rattle.model.specs.Judgement.{traits_at, next_ranges, taken_ranges, checked_before, is_reachable, is_checked, is_contained, access_contained, jumps_to_target, stays_inside, taken_kept, next_kept}
 use Rattle.reader.specs.Decoding.{Fetches}
 use Rattle.reader.specs.Loading.{Loaded}
-use Rattle.reader.specs.Lookups.{FindsNamed, target_found}
+use Rattle.lookup.specs.Found.{target_found}
 use Rattle.reader.proofs.Fetching.{fetched, program_count}
-use Rattle.reader.proofs.Searches.{found_target}
+use Rattle.lookup.proofs.Listed.{found_target}
 use Rattle.verifier.specs.Standing.{arrives_at, target_named}
 use Rattle.reader.specs.Readings.{program}
 use Rattle.verifier.specs.declared.rules.Place.{Place}
 
 -- what is found at a named index is the module's target there
 named_target : {l : Layout} {code targets : List ℕ} {n k : ℕ} → Loaded l code targets n k → (to found : Option ℕ)
-    → FindsNamed targets k to found → target_found targets found ≡ target_named (program_of l code targets).targets to
+    → found ≡ option_and_then (number_at (program_of l code targets).targets) to → target_found targets found ≡ target_named (program_of l code targets).targets to
 unfolding target_found
 named_target loaded None found is = rw is
-named_target loaded (Some to) found finds = found_target loaded to found finds
+named_target loaded (Some to) found is = found_target loaded to found is
 
 -- where a test is made of what is found, if anything is
 pub kept_or_none : (o : Option ℕ) (f : ℕ → Bool) {result : Bool} {P : ℕ → Type 0} → MatchOption o (IsTrue result) P
@@ -102,40 +103,40 @@ module _ (at : Place) where
   inside_is is = ∥∥₁_elim at.within.now.loaded (hlevel props) (λ loaded. rw (is, at.standing.instruction_is, program_count loaded))
 
   -- 8 and 11 on the edge taken, of the target that is named
-  module _ (named : Option ℕ) (finds : FindsNamed at.within.now.targets.now at.within.now.held.targets (traits (shape at.instruction)).names named) where
-    named_is : ∥ target_found at.within.now.targets.now named ≡ target_named (program at.within.now).targets (traits_at (program at.within.now) at.i).names ∥₁
-    named_is = ∥∥₁_elim at.within.now.loaded (hlevel props) (λ loaded.
-        ∣ named_target loaded (traits (shape at.instruction)).names named finds
-        ∙ ap (λ (x : Instruction). target_named (program at.within.now).targets (traits (shape x)).names) at.standing.instruction_is ∣₁)
+  named_is : ∥ target_found at.within.now.targets.now at.named ≡ target_named (program at.within.now).targets (traits_at (program at.within.now) at.i).names ∥₁
+  named_is = ∥∥₁_elim at.within.now.loaded (hlevel props) (λ loaded.
+      ∣ named_target loaded (traits_at (program at.within.now) at.i).names at.named at.standing.is_named ∣₁)
 
-    pub jumps_is : all_of (traits (shape at.instruction)).names (λ to. is_some named) ≡ jumps_to_target (program at.within.now) at.i
-    unfolding jumps_to_target target_found
-    jumps_is = ∥∥₁_elim named_is (hlevel props) (λ found.
-        ap (λ (x : Instruction). all_of (traits (shape x)).names (λ to. is_some named)) at.standing.instruction_is
-        ∙ by_name (traits_at (program at.within.now) at.i).names (some_found named ∙ ap (λ (o : Option Target). any_of o (λ t. true)) found))
-      where
-        some_found : (o : Option ℕ) → is_some o ≡ any_of (target_found at.within.now.targets.now o) (λ t. true)
-        some_found None = refl
-        some_found (Some j) = refl
+  pub jumps_is : {x : Instruction} → at.instruction ≡ x
+      → all_of (traits (shape x)).names (λ to. is_some at.named) ≡ jumps_to_target (program at.within.now) at.i
+  unfolding jumps_to_target target_found
+  jumps_is is = ∥∥₁_elim named_is (hlevel props) (λ found.
+      ap (λ (y : Instruction). all_of (traits (shape y)).names (λ to. is_some at.named)) (sym is ∙ at.standing.instruction_is)
+      ∙ by_name (traits_at (program at.within.now) at.i).names (some_found at.named ∙ ap (λ (o : Option Target). any_of o (λ t. true)) found))
+    where
+      some_found : (o : Option ℕ) → is_some o ≡ any_of (target_found at.within.now.targets.now o) (λ t. true)
+      some_found None = refl
+      some_found (Some j) = refl
 
-        by_name : (names : Option ℕ) → is_some named ≡ any_of (target_named (program at.within.now).targets names) (λ t. true)
-            → all_of names (λ to. is_some named) ≡ all_of names (is_target (program at.within.now).targets)
-        by_name None is = refl
-        by_name (Some to) is = is
+      by_name : (names : Option ℕ) → is_some at.named ≡ any_of (target_named (program at.within.now).targets names) (λ t. true)
+          → all_of names (λ to. is_some at.named) ≡ all_of names (is_target (program at.within.now).targets)
+      by_name None is = refl
+      by_name (Some to) is = is
 
-    pub taken_is : all_of named (λ j. lies_within (after_taken (shape at.instruction) at.known) (claim_in at.within.now.targets.now j))
-        ≡ taken_kept (program at.within.now) at.i
-    unfolding taken_kept
-    taken_is = ∥∥₁_elim named_is (hlevel props) (λ found.
-        claims_found at.within.now.targets.now _ named
-        ∙ ap₂ (λ (o : Option Target) (k : Ranges). all_of o (λ t. lies_within k t.claim)) found
-        (ap₂ (λ (x : Instruction) (k : Ranges). after_taken (shape x) k) at.standing.instruction_is at.standing.is_known)
-        ∙ by_name (traits_at (program at.within.now) at.i).names)
-      where
-        by_name : (names : Option ℕ) → all_of (target_named (program at.within.now).targets names) (λ t. lies_within (taken_ranges (program at.within.now) at.i) t.claim)
-            ≡ all_of names (λ to. all_of (target_at (program at.within.now).targets to) (λ t. lies_within (taken_ranges (program at.within.now) at.i) t.claim))
-        by_name None = refl
-        by_name (Some to) = refl
+  pub taken_is : {o : Option ℕ} → at.named ≡ o
+      → all_of o (λ j. lies_within (after_taken (shape at.instruction) at.known) (claim_in at.within.now.targets.now j))
+      ≡ taken_kept (program at.within.now) at.i
+  unfolding taken_kept
+  taken_is is = ∥∥₁_elim named_is (hlevel props) (λ found.
+      rw (← is) (claims_found at.within.now.targets.now _ at.named
+      ∙ ap₂ (λ (o : Option Target) (k : Ranges). all_of o (λ t. lies_within k t.claim)) found
+      (ap₂ (λ (x : Instruction) (k : Ranges). after_taken (shape x) k) at.standing.instruction_is at.standing.is_known)
+      ∙ by_name (traits_at (program at.within.now) at.i).names))
+    where
+      by_name : (names : Option ℕ) → all_of (target_named (program at.within.now).targets names) (λ t. lies_within (taken_ranges (program at.within.now) at.i) t.claim)
+          ≡ all_of names (λ to. all_of (target_at (program at.within.now).targets to) (λ t. lies_within (taken_ranges (program at.within.now) at.i) t.claim))
+      by_name None = refl
+      by_name (Some to) = refl
 
 -- 11 on the edge to the next index
 pub next_is : (p : Program) (i : ℕ) {falls : Bool} {next : Ranges} → falls ≡ (traits_at p i).falls → next ≡ next_ranges p i

@@ -1,6 +1,6 @@
 // Rules 8 to 13 at one index, each with its number and under the model's name. What an instruction's edges are, others may ask too:
 // whether it goes on, and the target that it names.
-ghost use Rattle.std.specs.Prelude.{◌≡◌, ℕ, ◌+◌, eqb, Some};
+ghost use Rattle.std.specs.Prelude.{◌≡◌, ℕ, ◌+◌, eqb, option_and_then};
 ghost use Rattle.std.proofs.Props.{props};
 ghost use Rattle.model.specs.Quantifiers.{any_of};
 ghost use Rattle.model.specs.Obligations.{first_fault};
@@ -10,14 +10,16 @@ ghost use Rattle.model.specs.File.{claim_in};
 ghost use Rattle.model.specs.Instructions.{shape, traits};
 ghost use Rattle.model.specs.Judgement.{traits_at, next_ranges, checked_before, is_reachable, is_checked, is_contained, access_contained, jumps_to_target, stays_inside, taken_kept, next_kept, before_next};
 ghost use Rattle.reader.specs.Findings.{fault_in};
-ghost use Rattle.reader.specs.Lookups.{FindsNamed, target_found};
+ghost use Rattle.model.specs.Lookup.{number_at};
+ghost use Rattle.lookup.specs.Found.{target_found};
 ghost use Rattle.verifier.specs.Standing.{Standing};
 ghost use Rattle.reader.specs.Readings.{program};
 
+use lookup::Indexed;
 use model::{Instruction, Range, Ranges, Refusal, Rule, Width};
 use ranges::{edges, knowledge, sums};
 use reader::module::Module;
-use reader::{decode, lookup, target};
+use reader::{decode, target};
 
 // The instruction can go on to the next index.
 #[tactic(auto, unfolding(model::specs::Instructions::shape))]
@@ -32,11 +34,11 @@ pub fn falls(instruction: Instruction) -> bool
 
 // The number of the target that the instruction names, as a jump and a branch do.
 #[tactic(auto, unfolding(model::specs::Instructions::shape))]
-pub fn target_named(targets: &[u8], k: u32, instruction: Instruction) -> Option<u32>
-    ensures { FindsNamed targets.now k (traits (shape instruction)).names result }
+pub fn target_named(indexed: &Indexed, instruction: Instruction) -> Option<u32>
+    ensures { result ≡ option_and_then (number_at (program indexed.now.«module»).targets) (traits (shape instruction)).names }
 {
     match instruction {
-        Instruction::Jump { to } | Instruction::Branch { to, .. } => lookup::find(targets, k, to),
+        Instruction::Jump { to } | Instruction::Branch { to, .. } => indexed.number_at(to),
         _ => None,
     }
 }
@@ -68,7 +70,7 @@ pub(crate) fn next_kept(module: &Module, falls: bool, next: Ranges, there: Optio
 }
 
 // What stands at an index, which is what its rules are asked of: whether the instruction before goes on to here, whether here is a
-// target, the instruction, and what is known before it.
+// target, the instruction, the number of the target that it names, and what is known before it.
 #[derive(Clone, Copy)]
 pub(crate) struct Place<'a> {
     pub within: &'a Module<'a>,
@@ -76,8 +78,9 @@ pub(crate) struct Place<'a> {
     pub arrives: bool,
     pub marked: bool,
     pub instruction: Instruction,
+    pub named: Option<u32>,
     pub known: Ranges,
-    pub ghost standing: { Standing within.now i arrives marked instruction known } by { Prim.hlevel props },
+    pub ghost standing: { Standing within.now i arrives marked instruction named known } by { Prim.hlevel props },
 }
 
 impl Place<'_> {
@@ -131,16 +134,13 @@ impl Place<'_> {
     }
 
     // 8: what a jump or branch names is a target.
-    #[tactic(auto, using(crate::proofs::ByRule::jumps_is), unfolding(model::specs::Instructions::shape))]
-    fn jumps_to_target(&self, named: Option<u32>) -> bool
-        requires { FindsNamed self.now.within.now.targets.now self.now.within.now.held.targets (traits (shape self.now.instruction)).names named }
+    fn jumps_to_target(&self) -> bool
         ensures { result ≡ jumps_to_target (program self.now.within.now) self.now.i }
     {
-        named.is_some()
-            || !matches!(
-                self.instruction,
-                Instruction::Jump { .. } | Instruction::Branch { .. }
-            )
+        match self.instruction {
+            Instruction::Jump { .. } | Instruction::Branch { .. } => self.named.is_some(),
+            _ => true,
+        }
     }
 
     // 13: the last instruction does not go on.
@@ -151,12 +151,10 @@ impl Place<'_> {
     }
 
     // 11 on the edge that a jump or branch takes to a target.
-    #[tactic(auto, using(crate::proofs::ByRule::taken_is))]
-    fn taken_kept(&self, named: Option<u32>) -> bool
-        requires { FindsNamed self.now.within.now.targets.now self.now.within.now.held.targets (traits (shape self.now.instruction)).names named }
+    fn taken_kept(&self) -> bool
         ensures { result ≡ taken_kept (program self.now.within.now) self.now.i }
     {
-        match named {
+        match self.named {
             Some(number) => {
                 let taken = edges::after_taken(self.instruction, self.known);
                 meets_claim(self.within.targets, number, taken)
@@ -179,15 +177,13 @@ impl Place<'_> {
         if !self.access_contained() {
             return Err(Rule::WildAccess.at(self.i));
         }
-        let held = self.within.held;
-        let named = target_named(self.within.targets, held.targets, self.instruction);
-        if !self.jumps_to_target(named) {
+        if !self.jumps_to_target() {
             return Err(Rule::NoTarget.at(self.i));
         }
         if !self.stays_inside() {
             return Err(Rule::FallsOff.at(self.i));
         }
-        if !self.taken_kept(named) {
+        if !self.taken_kept() {
             return Err(Rule::BrokenClaim.at(self.i));
         }
         Ok(())

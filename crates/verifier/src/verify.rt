@@ -1,17 +1,16 @@
 // The public entry: a module's bytes to a verdict.
-ghost use Rattle.std.specs.Prelude.{◌≡◌, cond, ◌&&◌, eqb, ltb, Some, None};
+ghost use Rattle.std.specs.Prelude.{◌≡◌};
 ghost use Rattle.model.specs.Obligations.{first_fault};
 ghost use Rattle.model.specs.Answers.{judgement_of};
-ghost use Rattle.model.specs.File.{target_index};
 ghost use Rattle.model.specs.Judgement.{verified, judgement};
 ghost use Rattle.reader.specs.Findings.{fault_in};
 ghost use Rattle.verifier.specs.Standing.{wrapped_region};
 ghost use Rattle.reader.specs.Readings.{program};
 
 use crate::rules::{self, Place};
+use lookup::{GROUPS, Indexed};
 use model::{Layout, Range, Refusal, Rule, Verdict};
 use ranges::{edges, knowledge};
-use reader::module::Module;
 use reader::{decode, read, target};
 use words::arithmetic;
 
@@ -25,24 +24,16 @@ pub fn region_of(layout: Layout) -> Range
     }
 }
 
-// The number of the target at an index, j being that of the first one at this index or above.
-fn target_at(module: &Module, j: u32, i: u32) -> Option<u32>
-    ensures { result ≡ cond (ltb j «module».now.held.targets && eqb (target_index «module».now.targets.now j) i) (Some j) None }
-{
-    let is_here = j < module.held.targets && u32::from(target::index_of(module.targets, j)) == i;
-    is_here.then_some(j)
-}
-
 // Rules 8 to 13 over every instruction, upward.
-fn check_code(module: &Module) -> Result<(), Refusal>
-    ensures { fault_in result ≡ first_fault (verified (program «module».now)) }
+fn check_code(indexed: &Indexed) -> Result<(), Refusal>
+    ensures { fault_in result ≡ first_fault (verified (program indexed.now.«module»)) }
 {
+    let module = &indexed.module;
     let region = region_of(module.layout);
     // What is known, and whether the instruction before goes on to here; "starting with anything".
     let mut known = knowledge::unknown();
     let mut arrives = true;
-    let mut j: u32 = 0;
-    let mut here = target_at(module, 0, 0);
+    let mut here = indexed.number_at(0);
     for i in 0..module.held.instructions {
         // "At a door it takes the claim."
         if let Some(number) = here {
@@ -55,13 +46,13 @@ fn check_code(module: &Module) -> Result<(), Refusal>
             arrives,
             marked: here.is_some(),
             instruction,
+            named: rules::target_named(indexed, instruction),
             known,
         };
         place.check()?;
         known = edges::after_next(region, instruction, known);
-        j += u32::from(here.is_some());
         arrives = rules::falls(instruction);
-        here = target_at(module, j, i + 1);
+        here = indexed.number_at((i + 1) as usize);
         if !rules::next_kept(module, arrives, known, here) {
             return Err(Rule::BrokenClaim.at(i));
         }
@@ -74,6 +65,8 @@ pub fn verify(file: &[u8]) -> Verdict
     ensures { judgement_of result ≡ judgement file.now }
 {
     let module = read::read(file)?;
-    check_code(&module)?;
+    let mut bits = [0; GROUPS];
+    let mut counts = [0; GROUPS];
+    check_code(&Indexed::of(module, &mut bits, &mut counts))?;
     Ok(module.held)
 }

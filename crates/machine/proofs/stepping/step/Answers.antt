@@ -3,4 +3,4 @@ use Rattle.machine.proofs.Looping.{steps_fetched}
 use Rattle.machine.proofs.stepping.step.Goals as goal
 
 pub returns : goal.returns
-returns c = steps_fetched c.args.m.now _ c.requires.inside _ c.fetch-instruction.ensures _ _ _ _ _ c.execute.ensures
+returns c = steps_fetched c.args.indexed.now.module _ c.requires.inside _ c.fetch-instruction.ensures _ _ _ _ _ c.execute.ensures

@@ -32,4 +32,4 @@ returns c = let read = module_read true _ c.read.result c.read.ensures.report _ 
     let parts = c.in_ok-module.ensures.parts in
     ran_post _ _ _ _ c.in_ok-module.module read (omega (arith, c.if-module-from.false, c.from.ensures))
     (omega (arith, c.if-all-size.false, c.if-all-size-2.false))
-    parts.code.bytes parts.targets.bytes _ _ _ c.run_in.ensures
+    parts.code.bytes parts.targets.bytes _ _ _ (rw c.of-indexed.ensures at c.run_in.ensures)

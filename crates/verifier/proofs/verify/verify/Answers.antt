@@ -19,11 +19,11 @@ returns-in_err-check_code c =
     let same : c.from_residual-in_err-check_code.result ≡ Err c.in_err-check_code.field-0.0 = search rules in
     rw same
     (code_refused _ c.in_ok-module.module (module_read _ _ _ c.read.ensures.report _ (c.in_ok-module.was)) parts.code.bytes parts.targets.bytes _
-    c.in_err-check_code.ensures)
+    (rw c.of.ensures at c.in_err-check_code.ensures))
 
 pub returns : goal.returns
 unfolding fault_in
 returns c =
     let parts = c.in_ok-module.ensures.parts in
     code_accepted _ c.in_ok-module.module (module_read _ _ _ c.read.ensures.report _ (c.in_ok-module.was)) parts.code.bytes parts.targets.bytes
-    c.in_ok-check_code.ensures
+    (rw c.of.ensures at c.in_ok-check_code.ensures)

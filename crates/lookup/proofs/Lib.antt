@@ -1,0 +1,4 @@
+pub mod Listed
+mod Marking
+mod Counting
+mod Finding
