@@ -18,7 +18,8 @@ use work::{Bench, Work};
 const USAGE: &str = "usage: bench times
        bench count proved|hand-written WORK N
        bench write FOLDER
-WORK is read, verify, write, loop, mixed, judge-loop, judge-mixed, claims-mixed, claims-largest or claims-slowest";
+WORK is read, verify, write, loop, mixed, judge-loop, judge-mixed, claims-mixed, claims-largest or claims-slowest,
+or verify-T, step-T or judge-T for T targets: 2, 16, 64 or 256";
 
 /// How many generated files `bench write` adds.
 const GENERATED: u64 = 400;
@@ -57,7 +58,7 @@ fn count(side: &str, work: &str, times: &str) -> Option<()> {
 fn write(folder: &str) -> Option<()> {
     let samples = Bench::new();
     for (name, file) in samples.files() {
-        write_file(folder, name, file)?;
+        write_file(folder, &name, file)?;
     }
     for case in 0..GENERATED {
         let generated = generate(&mut Random::for_case(0, case));

@@ -16,7 +16,7 @@ const MEASUREMENT: Duration = Duration::from_millis(2);
 /// A line for each piece of work: its name, its unit and the time of each side.
 pub fn print_times() {
     let mut bench = Bench::new();
-    for work in Work::ALL {
+    for work in Work::all() {
         let [proved, handwritten] = measure(&mut bench, work);
         println!("{} {} {proved} {handwritten}", work.name(), work.unit());
     }

@@ -1,7 +1,10 @@
 //! The pieces of work that are measured, each done by either side.
 
-use modules::{samples, tables};
+use modules::encode::Module;
+use modules::samples::{self, TARGETS};
+use modules::tables;
 use sides::{Machine, Side, Tables};
+use std::collections::BTreeMap;
 use std::hint::black_box;
 
 #[derive(Clone, Copy, Debug, PartialEq, Eq)]
@@ -14,7 +17,7 @@ pub enum Work {
     Write,
     /// Runs document 01's loop to its trap.
     Loop,
-    /// Runs the mixed module for [`MIXED_STEPS`] steps.
+    /// Runs the mixed module for [`STEPS`] steps.
     Mixed,
     /// Begins a run of document 01's loop with budget 0.
     JudgeLoop,
@@ -26,10 +29,16 @@ pub enum Work {
     ClaimsLargest,
     /// Works out the claims of the slowest module.
     ClaimsSlowest,
+    /// Verifies the branching module with so many targets.
+    VerifyTargets(usize),
+    /// Runs the tour of so many targets for [`STEPS`] steps.
+    StepTargets(usize),
+    /// Begins a run of the tour of so many targets with budget 0.
+    JudgeTargets(usize),
 }
 
 impl Work {
-    pub const ALL: [Work; 10] = [
+    const ONCE: [Work; 10] = [
         Work::Read,
         Work::Verify,
         Work::Write,
@@ -42,30 +51,39 @@ impl Work {
         Work::ClaimsSlowest,
     ];
 
-    pub fn name(self) -> &'static str {
+    pub fn all() -> impl Iterator<Item = Work> {
+        let by_targets = [Work::VerifyTargets, Work::StepTargets, Work::JudgeTargets].into_iter();
+        let by_targets = by_targets.flat_map(|work| TARGETS.map(work));
+        Work::ONCE.into_iter().chain(by_targets)
+    }
+
+    pub fn name(self) -> String {
         match self {
-            Work::Read => "read",
-            Work::Verify => "verify",
-            Work::Write => "write",
-            Work::Loop => "loop",
-            Work::Mixed => "mixed",
-            Work::JudgeLoop => "judge-loop",
-            Work::JudgeMixed => "judge-mixed",
-            Work::ClaimsMixed => "claims-mixed",
-            Work::ClaimsLargest => "claims-largest",
-            Work::ClaimsSlowest => "claims-slowest",
+            Work::Read => "read".into(),
+            Work::Verify => "verify".into(),
+            Work::Write => "write".into(),
+            Work::Loop => "loop".into(),
+            Work::Mixed => "mixed".into(),
+            Work::JudgeLoop => "judge-loop".into(),
+            Work::JudgeMixed => "judge-mixed".into(),
+            Work::ClaimsMixed => "claims-mixed".into(),
+            Work::ClaimsLargest => "claims-largest".into(),
+            Work::ClaimsSlowest => "claims-slowest".into(),
+            Work::VerifyTargets(targets) => format!("verify-{targets}"),
+            Work::StepTargets(targets) => format!("step-{targets}"),
+            Work::JudgeTargets(targets) => format!("judge-{targets}"),
         }
     }
 
     pub fn named(name: &str) -> Option<Work> {
-        Work::ALL.into_iter().find(|work| work.name() == name)
+        Work::all().find(|work| work.name() == name)
     }
 
     /// What the work is divided by.
     pub fn unit(self) -> &'static str {
         match self {
-            Work::Read | Work::Verify | Work::Write => "instruction",
-            Work::Loop | Work::Mixed => "step",
+            Work::Read | Work::Verify | Work::Write | Work::VerifyTargets(_) => "instruction",
+            Work::Loop | Work::Mixed | Work::StepTargets(_) => "step",
             _ => "call",
         }
     }
@@ -73,24 +91,33 @@ impl Work {
     /// The instructions that are judged or written, or the steps that are made; 0 where the unit is a call.
     fn count(self) -> u64 {
         match self {
-            Work::Read | Work::Verify | Work::Write => 4096,
+            Work::Read | Work::Verify | Work::Write | Work::VerifyTargets(_) => 4096,
             Work::Loop => samples::LOOP_STEPS,
-            Work::Mixed => MIXED_STEPS,
+            Work::Mixed | Work::StepTargets(_) => STEPS,
             _ => 0,
         }
     }
 
     fn budget(self) -> u64 {
         match self {
-            Work::Mixed => MIXED_STEPS,
-            Work::JudgeLoop | Work::JudgeMixed => 0,
+            Work::Mixed | Work::StepTargets(_) => STEPS,
+            Work::JudgeLoop | Work::JudgeMixed | Work::JudgeTargets(_) => 0,
             _ => u64::MAX,
         }
     }
 }
 
-/// One run of the mixed module: long enough that judging the file at its start hardly counts.
-pub const MIXED_STEPS: u64 = 250_000;
+/// One run of a module that never ends: long enough that judging the file at its start hardly counts.
+pub const STEPS: u64 = 250_000;
+
+/// A file for each number of targets.
+type Files = BTreeMap<usize, Vec<u8>>;
+
+fn files(sample: fn(usize) -> Module) -> Files {
+    TARGETS
+        .map(|targets| (targets, sample(targets).to_bytes()))
+        .into()
+}
 
 /// The modules, and a memory for each side in which the region begins at [`OFFSET`].
 pub struct Bench {
@@ -98,6 +125,8 @@ pub struct Bench {
     document_loop: Vec<u8>,
     mixed: Vec<u8>,
     slowest: Vec<u8>,
+    branching: Files,
+    tours: Files,
     /// The mixed, the largest and the slowest module once more, whose claims are worked out.
     worked_out: [Vec<u8>; 3],
     /// Those of the largest module, and the file that each side writes from them.
@@ -123,6 +152,8 @@ impl Bench {
             document_loop: samples::document_loop().to_bytes(),
             mixed,
             slowest,
+            branching: files(samples::branching),
+            tours: files(samples::tour),
             memories: [(); 2].map(|()| vec![0; MEMORY_LENGTH]),
         };
         for (name, file) in bench.files() {
@@ -133,13 +164,21 @@ impl Bench {
         bench
     }
 
-    pub fn files(&self) -> [(&'static str, &[u8]); 4] {
-        [
+    /// Each module's name and file.
+    pub fn files(&self) -> impl Iterator<Item = (String, &Vec<u8>)> {
+        let once = [
             ("largest", &self.largest),
             ("loop", &self.document_loop),
             ("mixed", &self.mixed),
             ("slowest", &self.slowest),
-        ]
+        ];
+        let by_targets = [("branching", &self.branching), ("tour", &self.tours)].into_iter();
+        let by_targets = by_targets.flat_map(|(name, files)| {
+            let files = files.iter();
+            files.map(move |(targets, file)| (format!("{name}-{targets}"), file))
+        });
+        let once = once.map(|(name, file)| (name.to_string(), file));
+        once.into_iter().chain(by_targets)
     }
 
     /// Both memories as they were at first, and nothing written.
@@ -165,6 +204,10 @@ impl Bench {
             Work::ClaimsMixed => claims_mixed,
             Work::ClaimsLargest => claims_largest,
             Work::ClaimsSlowest => claims_slowest,
+            Work::VerifyTargets(targets) => of(&mut self.branching, targets),
+            Work::StepTargets(targets) | Work::JudgeTargets(targets) => {
+                of(&mut self.tours, targets)
+            }
         };
         let memory = &mut self.memories[side as usize];
         for _ in 0..times {
@@ -173,6 +216,10 @@ impl Bench {
         }
         work.count().max(1) * u64::from(times)
     }
+}
+
+fn of(files: &mut Files, targets: usize) -> &mut Vec<u8> {
+    files.get_mut(&targets).expect("one that is measured")
 }
 
 /// Does a piece of work and answers the instructions judged or written, or the steps made.
@@ -189,7 +236,7 @@ fn do_once(side: Side, file: &mut [u8], tables: &Tables, memory: &mut [u8], work
             let [.., instructions, _] = black_box(read).expect("the module is readable");
             u64::from(instructions)
         }
-        Work::Verify => {
+        Work::Verify | Work::VerifyTargets(_) => {
             let verified = side.verify(black_box(file));
             let [instructions, _] = black_box(verified).expect("the module is accepted");
             u64::from(instructions)
@@ -199,7 +246,12 @@ fn do_once(side: Side, file: &mut [u8], tables: &Tables, memory: &mut [u8], work
             let length = black_box(written).expect("the tables are good");
             u64::from((length - 21 - 256 * 68) / 8)
         }
-        Work::Loop | Work::Mixed | Work::JudgeLoop | Work::JudgeMixed => {
+        Work::Loop
+        | Work::Mixed
+        | Work::JudgeLoop
+        | Work::JudgeMixed
+        | Work::StepTargets(_)
+        | Work::JudgeTargets(_) => {
             let mut machine = Machine {
                 registers: [0; 8],
                 pc: black_box(0),

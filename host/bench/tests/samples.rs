@@ -1,7 +1,7 @@
 //! The measured modules are what the table says of them.
 
-use modules::encode::{op, Module};
-use modules::samples::{document_loop, largest, mixed, slowest};
+use modules::encode::{op, Instruction, Module};
+use modules::samples::{branching, document_loop, largest, mixed, slowest, tour, TARGETS};
 use sides::{Machine, Side};
 use std::collections::BTreeSet;
 
@@ -63,5 +63,66 @@ fn every_way_is_gone(side: Side, module: &Module) {
             _ => 1,
         };
         assert_eq!(ways, expected, "ways on from {index}, {instruction:?}");
+    }
+}
+
+#[test]
+fn those_by_targets_are_accepted_and_have_so_many() {
+    for targets in TARGETS {
+        for module in [branching(targets), tour(targets)] {
+            for side in Side::BOTH {
+                let verified = side.verify(&module.to_bytes());
+                assert_eq!(verified, Ok([4096, targets as u32]));
+            }
+        }
+    }
+}
+
+/// The indexes of all targets.
+fn indexes(module: &Module) -> BTreeSet<u32> {
+    module.targets.iter().map(|one| one.index.into()).collect()
+}
+
+#[test]
+fn the_branching_names_every_target_and_is_else_the_same() {
+    let without_names = |module: &Module| -> Vec<Instruction> {
+        let code = module.code.iter();
+        code.map(|&one| match one.op {
+            op::BRANCH => Instruction { imm: 0, ..one },
+            _ => one,
+        })
+        .collect()
+    };
+    let least = without_names(&branching(TARGETS[0]));
+    for targets in TARGETS {
+        let module = branching(targets);
+        assert_eq!(without_names(&module), least);
+        let branches = module.code.iter().filter(|one| one.op == op::BRANCH);
+        assert_eq!(branches.clone().count(), 1023);
+        let mut named: Vec<u32> = branches.map(|one| one.imm).collect();
+        named.truncate(targets);
+        // Each once before any comes again.
+        assert_eq!(named.into_iter().collect::<BTreeSet<_>>(), indexes(&module));
+    }
+}
+
+#[test]
+fn the_tour_reaches_every_target_once_in_a_round() {
+    for targets in TARGETS {
+        let module = tour(targets);
+        for side in Side::BOTH {
+            let made = steps(side, &module, 2 * targets);
+            assert_eq!(made.len(), 2 * targets, "no step comes twice");
+            let is_lookup = |&&(from, _): &&(usize, usize)| {
+                let lookups = [op::JUMP, op::BRANCH, op::CHECK, op::JUMPR];
+                lookups.contains(&module.code[from].op)
+            };
+            assert_eq!(made.iter().filter(is_lookup).count(), targets * 3 / 2);
+            let all = indexes(&module);
+            let reached = made.iter().map(|&(_, to)| to as u32);
+            let reached: BTreeSet<u32> = reached.filter(|to| all.contains(to)).collect();
+            assert_eq!(reached, all);
+            assert!(made.iter().any(|&(_, to)| to == 0), "the round is closed");
+        }
     }
 }

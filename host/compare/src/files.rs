@@ -1,7 +1,8 @@
-//! One generated file: what `read` and `verify` answer, what `work_out` makes of it, and what `write` makes of its
-//! tables.
+//! One generated file: what `read` and `verify` answer, what `work_out` makes of it, what `write` makes of its tables,
+//! and what is found of its targets.
 
 use crate::difference::hexadecimal;
+use crate::lookups::Looked;
 use crate::signed::Seen;
 use crate::tally::Tally;
 use crate::worked::Worked;
@@ -38,6 +39,12 @@ fn judge(generated: &Generated, random: &mut Random, tally: &mut Tally) -> Resul
     tally.count_written(generated.origin, &written);
     tally.count_turn(generated.origin, verified, earlier);
     tally.count_signed(generated.origin, &seen);
+    if verified.is_ok() {
+        tally.count_shapes(generated.origin, file);
+    }
+    if generated.origin == Origin::Grouped {
+        tally.count_looked(&Looked::of(&generated.module, file, random)?);
+    }
     Ok(())
 }
 

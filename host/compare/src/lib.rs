@@ -1,5 +1,5 @@
 //! Compares the proved library with the hand-written one on generated modules and their tables, on lists of runs and on
-//! single accesses.
+//! single accesses and lookups.
 
 mod accesses;
 mod by_origin;
@@ -7,7 +7,9 @@ mod counts;
 mod difference;
 mod files;
 mod lists;
+mod lookups;
 mod plan;
+mod shapes;
 mod signed;
 mod tally;
 mod turns;
@@ -15,6 +17,7 @@ mod worked;
 mod written;
 
 pub use difference::Difference;
+pub use lookups::Looked;
 pub use signed::Seen;
 pub use tally::Tally;
 pub use worked::Worked;

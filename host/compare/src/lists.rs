@@ -17,7 +17,7 @@ const KNOWN_TO_END: u64 = 5000;
 pub fn compare_list(seed: u64, case: u64, tally: &mut Tally) -> Result<(), String> {
     // Other numbers than those of the modules' cases.
     let mut random = Random::for_case(seed ^ 0x6c69_7374, case);
-    let origin = match random.below(53) {
+    let origin = match random.below(56) {
         0..=27 => Origin::Valid,
         28..=40 => Origin::Near,
         41..=44 => Origin::Damaged,
@@ -25,6 +25,7 @@ pub fn compare_list(seed: u64, case: u64, tally: &mut Tally) -> Result<(), Strin
         47 => Origin::EmptyN,
         48 => Origin::EmptyB,
         49..=51 => Origin::Growing,
+        52..=54 => Origin::Grouped,
         _ => Origin::Signed,
     };
     let mut generated = generate_from(origin, &mut random);

@@ -82,12 +82,17 @@ fn put_at_a_limit(
         op::CHECK | op::JUMPR => {
             let target = random.below(module.targets.len());
             let index = u32::from(module.targets[target].index);
+            let instructions = module.code.len() as u32;
             let limits = [
                 index,
                 index,
-                index + 65_536,
+                index,
                 index + 1,
-                module.code.len() as u32,
+                index + 4096,
+                index + 65_536,
+                index + (1 << 31),
+                instructions,
+                instructions + random.below(4096) as u32,
             ];
             registers[a] = random.pick(&limits);
         }

@@ -1,9 +1,11 @@
 //! How often each refusal, each ending, a long budget, each turn of a verdict, each kind of signed load, of claims that
-//! are worked out, of tables that are written and of single accesses occurred, so that nothing is believed compared
-//! that never happened.
+//! are worked out, of tables that are written, of targets that are found and of single accesses occurred, so that
+//! nothing is believed compared that never happened.
 
 use crate::accesses::Accesses;
 use crate::counts::Counts;
+use crate::lookups::{Looked, Lookups};
+use crate::shapes::Shapes;
 use crate::signed::{Seen, Signed};
 use crate::turns::Turns;
 use crate::worked::{Worked, Workings};
@@ -22,6 +24,8 @@ pub struct Tally {
     signed: Signed,
     workings: Workings,
     writings: Writings,
+    shapes: Shapes,
+    lookups: Lookups,
     pub accesses: Accesses,
     /// Refusals by number; 0 counts what was not refused.
     read: Counts,
@@ -74,6 +78,16 @@ impl Tally {
         self.writings.count(origin, written);
     }
 
+    /// Counts how an accepted file's targets stand.
+    pub fn count_shapes(&mut self, origin: Origin, file: &[u8]) {
+        self.shapes.count(origin, file);
+    }
+
+    /// Counts what was looked up in a module.
+    pub fn count_looked(&mut self, looked: &Looked) {
+        self.lookups.count(looked);
+    }
+
     pub fn count_list(&mut self) {
         self.lists += 1;
     }
@@ -90,8 +104,8 @@ impl Tally {
         }
     }
 
-    /// The refusals, endings, long budgets, turns, and kinds of signed loads, of claims worked out, of tables written
-    /// and of accesses that never occurred.
+    /// The refusals, endings, long budgets, turns, and kinds of signed loads, of claims worked out, of tables written,
+    /// of targets found and of accesses that never occurred.
     pub fn missing(&self) -> Vec<String> {
         let refusals = Rule::ALL.into_iter().filter(|rule| {
             let times = self.refusals(rule.number());
@@ -107,6 +121,8 @@ impl Tally {
             .chain(self.signed.missing())
             .chain(self.workings.missing())
             .chain(self.writings.missing())
+            .chain(self.shapes.missing())
+            .chain(self.lookups.missing())
             .chain(self.accesses.missing())
             .collect()
     }
@@ -226,6 +242,8 @@ impl fmt::Display for Tally {
         self.signed.write_modules(out)?;
         self.workings.fmt(out)?;
         self.writings.fmt(out)?;
+        self.shapes.fmt(out)?;
+        self.lookups.fmt(out)?;
         self.write_lists(out)?;
         self.signed.write_runs(out)?;
         self.accesses.fmt(out)?;

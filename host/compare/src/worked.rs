@@ -66,13 +66,13 @@ const WANTED: [Kind; 10] = [
 const REFUSALS: [u32; 12] = [1, 2, 3, 4, 5, 6, 7, 8, 9, 10, 12, 13];
 
 /// A file after its claims are worked out by both sides.
-struct Outcome {
+pub struct Outcome {
     verdict: Verdict,
     file: Vec<u8>,
 }
 
 /// Works out the claims by both: the same answer and the same bytes.
-fn by_both(file: &[u8]) -> Result<Outcome, String> {
+pub fn by_both(file: &[u8]) -> Result<Outcome, String> {
     let mut files = [file.to_vec(), file.to_vec()];
     let verdicts = Side::BOTH.map(|side| side.work_out(&mut files[side as usize]));
     let verdict = same("work_out", verdicts)?;

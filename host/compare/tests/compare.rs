@@ -1,12 +1,12 @@
 //! A smaller portion of what the program `compare` does.
 
-use compare::{compare, Seen, Tally, Worked, Written, SEED};
+use compare::{compare, Looked, Seen, Tally, Worked, Written, SEED};
 use modules::assembler::*;
 use modules::encode::{claim, test, Instruction, Layout, Module, Range, Target};
 use modules::gate;
 use modules::generate::Origin;
 use modules::random::Random;
-use modules::samples::{document_loop, mixed};
+use modules::samples::{branching, document_loop, mixed};
 use sides::ending::HALTED;
 use sides::Side;
 
@@ -149,9 +149,7 @@ fn count_claims(tally: &mut Tally, file: &[u8]) {
 }
 
 fn missing_claims(tally: &Tally) -> Vec<String> {
-    let missing = tally.missing().into_iter();
-    let kinds = missing.filter_map(|kind| Some(kind.strip_suffix(" (claims worked out)")?.into()));
-    kinds.collect()
+    missing_of(tally, " (claims worked out)")
 }
 
 /// Files with the kinds that they show for the first time.
@@ -247,7 +245,70 @@ fn count_tables(tally: &mut Tally, file: &[u8], case: u64) -> usize {
 }
 
 fn missing_tables(tally: &Tally) -> Vec<String> {
+    missing_of(tally, " (tables written)")
+}
+
+/// The missing kinds that have this behind them.
+fn missing_of(tally: &Tally, suffix: &str) -> Vec<String> {
     let missing = tally.missing().into_iter();
-    let kinds = missing.filter_map(|kind| Some(kind.strip_suffix(" (tables written)")?.into()));
+    let kinds = missing.filter_map(|kind| Some(kind.strip_suffix(suffix)?.into()));
     kinds.collect()
+}
+
+#[test]
+fn a_shape_that_never_occurred_is_missing() {
+    let shapes = |tally: &Tally| missing_of(tally, " (targets)");
+    let mut tally = Tally::default();
+    let mut due = shapes(&tally);
+    tally.count_shapes(Origin::Near, &document_loop().to_bytes());
+    due.retain(|shape| shape != "n not a multiple of 64");
+    assert_eq!(shapes(&tally), due);
+    tally.count_shapes(Origin::Near, &branching(2).to_bytes());
+    due.retain(|shape| shape != "n a multiple of 64" && shape != "an empty group between");
+    assert_eq!(shapes(&tally), due);
+    let first = |count: u16| {
+        let targets: Vec<Target> = (0..count).map(Target::indirect).collect();
+        Module::known(&[halt(); 256], &targets).to_bytes()
+    };
+    for (count, shown) in [
+        (63, &[][..]),
+        (64, &["64 targets or more", "a full group"]),
+        (65, &["on both sides of an edge"]),
+        (199, &[]),
+        (200, &["200 targets or more"]),
+        (255, &[]),
+        (256, &["256 targets", "at the last instruction"]),
+    ] {
+        tally.count_shapes(Origin::Near, &first(count));
+        due.retain(|shape| !shown.contains(&shape.as_str()));
+        assert_eq!(shapes(&tally), due, "{count} targets");
+    }
+    assert_eq!(due, Vec::<String>::new());
+}
+
+#[test]
+fn a_kind_of_targets_found_that_never_occurred_is_missing() {
+    let kinds = |tally: &Tally| missing_of(tally, " (targets found)");
+    let mut tally = Tally::default();
+    let mut due = kinds(&tally);
+    // It has no index below n but an indirect target's, and nothing that names one.
+    let halt = Module::known(&[halt()], &[Target::indirect(0)]);
+    tally.count_looked(&looked_up(&halt));
+    due.retain(|kind| {
+        let (asker, index) = kind.split_once(", ").expect("who asks, and for what");
+        asker.starts_with("8: ") || index == "a direct target" || index.starts_with("none, ")
+    });
+    assert_eq!(kinds(&tally), due);
+    // It has two targets, and a jump names one of them.
+    tally.count_looked(&looked_up(&document_loop()));
+    due.retain(|kind| kind.starts_with("8: branch, ") || kind.ends_with("in a group without"));
+    assert_eq!(kinds(&tally), due);
+    // It has branches too, and a group without targets.
+    tally.count_looked(&looked_up(&mixed()));
+    assert_eq!(kinds(&tally), Vec::<String>::new());
+}
+
+fn looked_up(module: &Module) -> Looked {
+    let looked = Looked::of(module, &module.to_bytes(), &mut Random::for_case(SEED, 0));
+    looked.expect("both answer alike")
 }

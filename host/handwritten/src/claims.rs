@@ -4,6 +4,7 @@ use crate::decoder::Decoder;
 use crate::lookup::Lookup;
 use crate::ranges::{at_branch, cover, go_on, Gone, Ranges, Region, ANYTHING};
 use crate::reader::{index, is_indirect, Parts, Target, MAX_TARGETS};
+use crate::set::Set;
 use crate::Sweeps;
 use core::mem::swap;
 
@@ -11,43 +12,16 @@ use core::mem::swap;
 const GROWTHS: u8 = 8;
 
 /// A set of targets, by number.
-struct Set([u64; MAX_TARGETS / 64]);
-
-impl Set {
-    const EMPTY: Set = Set([0; MAX_TARGETS / 64]);
-
-    fn has(&self, rank: usize) -> bool {
-        self.0[rank / 64] >> (rank % 64) & 1 != 0
-    }
-
-    fn insert(&mut self, rank: usize) {
-        self.0[rank / 64] |= 1 << (rank % 64);
-    }
-
-    fn remove(&mut self, rank: usize) {
-        self.0[rank / 64] &= !(1 << (rank % 64));
-    }
-
-    /// The lowest that is not below `from`.
-    fn next(&self, from: usize) -> Option<usize> {
-        let mut word = from / 64;
-        let mut bits = self.0.get(word)? & (!0 << (from % 64));
-        while bits == 0 {
-            word += 1;
-            bits = *self.0.get(word)?;
-        }
-        Some(word * 64 + bits.trailing_zeros() as usize)
-    }
-}
+type Ranks = Set<{ MAX_TARGETS / 64 }>;
 
 /// The claims, as far as they are worked out.
 pub(crate) struct Claims {
     /// By target; what an unreached one has here means nothing.
     ranges: [Ranges; MAX_TARGETS],
-    unreached: Set,
+    unreached: Ranks,
     /// The targets whose claim isn't the one with which the code behind them was last gone through. The others are left
     /// out of a sweep: their edges would bring what they brought, and that is covered.
-    changed: Set,
+    changed: Ranks,
     /// In how many sweeps each register has grown.
     growths: [[u8; 8]; MAX_TARGETS],
     /// The registers that have grown in this sweep, a bit for each.
@@ -60,8 +34,8 @@ pub(crate) struct Claims {
 impl Claims {
     pub const NONE: Claims = Claims {
         ranges: [[ANYTHING; 8]; MAX_TARGETS],
-        unreached: Set::EMPTY,
-        changed: Set::EMPTY,
+        unreached: Ranks::EMPTY,
+        changed: Ranks::EMPTY,
         growths: [[0; 8]; MAX_TARGETS],
         grown: [0; MAX_TARGETS],
         still: true,
@@ -76,7 +50,7 @@ impl Claims {
     #[inline(never)]
     pub fn work_out(&mut self, parts: &Parts) {
         let mut lookup = Lookup::EMPTY;
-        lookup.mark(parts.targets);
+        lookup.mark(parts);
         for (rank, target) in parts.targets.iter().enumerate() {
             if is_indirect(target) {
                 self.changed.insert(rank);
@@ -113,8 +87,7 @@ impl Claims {
     fn go_through(&mut self, parts: &Parts, lookup: &Lookup, rank: usize) {
         let region = Region::of(parts.layout);
         let begin = index(&parts.targets[rank]);
-        let next = parts.targets.get(rank + 1);
-        let end = next.map_or(parts.code.len(), index);
+        let end = lookup.next(begin + 1, parts.code.len());
         let mut ranges = self.ranges[rank];
         for instruction in &parts.code[begin..end] {
             let ins = Decoder(instruction);
@@ -129,7 +102,7 @@ impl Claims {
                 _ => return,
             }
         }
-        self.arrive(next.map(|_| rank + 1), &ranges);
+        self.arrive(lookup.find(end as u32), &ranges);
     }
 
     /// Widens the claim at the end of an edge; an indirect target's covers everything. An edge to no target is passed

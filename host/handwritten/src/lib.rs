@@ -11,12 +11,16 @@
 #![no_std]
 #![forbid(unsafe_code)]
 
+#[cfg(test)]
+extern crate std;
+
 mod claims;
 mod decoder;
 mod lookup;
 mod machine;
 mod ranges;
 mod reader;
+mod set;
 mod verifier;
 mod writer;
 

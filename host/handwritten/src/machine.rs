@@ -1,33 +1,26 @@
 //! The stepping machine.
 
 use crate::decoder::Decoder;
-use crate::reader::{index, is_indirect, Instruction, Parts, Target, MAX_INSTRUCTIONS};
+use crate::lookup::Lookup;
+use crate::reader::{is_indirect, Instruction, Parts, Target};
 use crate::{Ending, Layout, Machine, Run};
 
-/// One bit for each index that an instruction can have.
-type Bitmap = [u64; MAX_INSTRUCTIONS / 64];
-
-fn has(bitmap: &Bitmap, at: u32) -> bool {
-    let word = bitmap.get((at / 64) as usize);
-    word.is_some_and(|word| word >> (at % 64) & 1 != 0)
-}
-
 /// What no step changes: the layout and where transfers may go.
-struct Ground {
+struct Ground<'a> {
     layout: Layout,
-    direct: Bitmap,
-    indirect: Bitmap,
+    targets: &'a [Target],
+    lookup: Lookup,
 }
 
-impl Ground {
-    /// Marks the targets. In place, because moving the bitmaps would cost a copy.
-    fn mark(&mut self, targets: &[Target]) {
-        for target in targets {
-            let at = index(target);
-            let (word, bit) = (at / 64 % self.direct.len(), 1 << (at % 64));
-            self.direct[word] |= bit;
-            self.indirect[word] |= if is_indirect(target) { bit } else { 0 };
-        }
+impl Ground<'_> {
+    fn is_target(&self, at: u32) -> bool {
+        self.lookup.find(at).is_some()
+    }
+
+    fn is_indirect_target(&self, at: u32) -> bool {
+        let rank = self.lookup.find(at);
+        let target = rank.and_then(|rank| self.targets.get(rank));
+        target.is_some_and(is_indirect)
     }
 
     /// How an access outside the region ends.
@@ -61,7 +54,7 @@ impl Ground {
             10 | 11 if address.wrapping_sub(base) > size - u32::from(bytes) => {
                 self.missed(address, bytes)
             }
-            14 if !has(&self.indirect, registers[ins.a()]) => Ending::Denied,
+            14 if !self.is_indirect_target(registers[ins.a()]) => Ending::Denied,
             _ => Ending::Violated,
         };
         (ending, pc)
@@ -127,10 +120,10 @@ pub(crate) fn run(parts: &Parts, machine: &mut Machine, region: &mut [u8], budge
     let Layout { base, size, .. } = parts.layout;
     let mut ground = Ground {
         layout: parts.layout,
-        direct: [0; MAX_INSTRUCTIONS / 64],
-        indirect: [0; MAX_INSTRUCTIONS / 64],
+        targets: parts.targets,
+        lookup: Lookup::EMPTY,
     };
-    ground.mark(parts.targets);
+    ground.lookup.mark(parts);
     // A last instruction that can only go on to the next index does nothing but end the run.
     // Left out here, it needs no looking for at each step.
     let body = match parts.code {
@@ -190,20 +183,20 @@ pub(crate) fn run(parts: &Parts, machine: &mut Machine, region: &mut [u8], budge
             }
             13 if !holds(ins.w(), registers[ins.a()], registers[ins.b()]) => {}
             12 | 13 => {
-                if !has(&ground.direct, ins.imm()) {
+                if !ground.is_target(ins.imm()) {
                     break Ending::Violated;
                 }
                 cursor.transfer(ins.imm());
                 continue;
             }
             14 => {
-                if !has(&ground.indirect, registers[ins.a()]) {
+                if !ground.is_indirect_target(registers[ins.a()]) {
                     break Ending::Denied;
                 }
             }
             _ => {
                 let aim = registers[ins.a()];
-                if !has(&ground.indirect, aim) {
+                if !ground.is_indirect_target(aim) {
                     break Ending::Violated;
                 }
                 cursor.transfer(aim);

@@ -3,7 +3,7 @@
 use crate::decoder::Decoder;
 use crate::lookup::Lookup;
 use crate::ranges::{at_branch, claim, go_on, high, low, Gone, Range, Ranges, Region};
-use crate::reader::{index, Parts, Target};
+use crate::reader::{Parts, Target};
 use crate::Refusal;
 
 /// Whether every range lies within the target's claim.
@@ -36,16 +36,18 @@ pub(crate) fn verify<const EARLIER: bool>(parts: &Parts) -> Result<(), Refusal> 
     let most = i64::from(region.last) + guard + 1;
     let code = parts.code;
     let mut lookup = Lookup::EMPTY;
-    lookup.mark(parts.targets);
+    lookup.mark(parts);
     let find = |at: u32| parts.targets.get(lookup.find(at)?);
 
     // The first target has index 0, so the targets cut the code into blocks that begin with one.
     let mut i = 0;
-    let mut targets = parts.targets.iter();
-    let mut next = targets.next();
-    while let Some(target) = next {
-        next = targets.next();
-        let end = next.map_or(code.len(), index);
+    let mut found = find(0);
+    while i < code.len() {
+        let Some(target) = found else {
+            return refuse(12, i);
+        };
+        let begin = i;
+        let end = lookup.next(begin + 1, code.len());
         let block = code.get(..end).unwrap_or(code);
         let mut ranges = claim(target);
 
@@ -90,9 +92,8 @@ pub(crate) fn verify<const EARLIER: bool>(parts: &Parts) -> Result<(), Refusal> 
                 }
                 15 => {
                     // At the block's start it's a target itself, whatever stands before it.
-                    let checked = i > index(target)
-                        && code[i - 1][0] == 14
-                        && code[i - 1][1] == instruction[1];
+                    let checked =
+                        i > begin && code[i - 1][0] == 14 && code[i - 1][1] == instruction[1];
                     if !checked {
                         return refuse(9, i);
                     }
@@ -104,13 +105,11 @@ pub(crate) fn verify<const EARLIER: bool>(parts: &Parts) -> Result<(), Refusal> 
         };
         if closed {
             i += 1;
-            if i < end {
-                return refuse(12, i);
-            }
-            continue;
         }
-        // Control falls out of the block.
-        match next {
+        found = find(i as u32);
+        match found {
+            _ if closed => {}
+            // Control falls out of the block.
             None => return refuse(13, i - 1),
             Some(next) if !keeps(&ranges, next) => return refuse(11, i - 1),
             Some(_) => {}

@@ -55,6 +55,13 @@ impl Instruction {
         self.w & !SIGN
     }
 
+    /// As it stands in a file.
+    pub fn to_bytes(self) -> [u8; 8] {
+        let Instruction { op, a, b, w, imm } = self;
+        let [i, j, k, l] = imm.to_le_bytes();
+        [op, a, b, w, i, j, k, l]
+    }
+
     /// Whether it is a load that carries the sign up, of any width.
     pub const fn is_signed_load(self) -> bool {
         self.op == op::LOAD && self.w & SIGN != 0
@@ -165,8 +172,8 @@ impl Module {
             }
         });
         put_field(&mut file, 2, |value| {
-            for &instruction in &self.code {
-                put_instruction(value, instruction);
+            for instruction in &self.code {
+                value.extend(instruction.to_bytes());
             }
         });
         put_field(&mut file, 3, |value| {
@@ -197,12 +204,6 @@ fn put_field(file: &mut Vec<u8>, tag: u8, put_value: impl FnOnce(&mut Vec<u8>)) 
     file.push(tag);
     file.extend((value.len() as u16).to_le_bytes());
     file.extend(value);
-}
-
-fn put_instruction(value: &mut Vec<u8>, instruction: Instruction) {
-    let Instruction { op, a, b, w, imm } = instruction;
-    value.extend([op, a, b, w]);
-    value.extend(imm.to_le_bytes());
 }
 
 fn put_target(value: &mut Vec<u8>, target: &Target) {

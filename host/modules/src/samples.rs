@@ -1,8 +1,8 @@
 //! Accepted modules: document 01's loop, one that counts its rounds, the largest module there can be, a mixed one that
-//! never ends, and one whose claims take long to work out.
+//! never ends, one whose claims take long to work out, and ones with few and with many targets, which are looked up.
 
 use crate::assembler::*;
-use crate::encode::{claim, test, Instruction, Layout, Module, Target};
+use crate::encode::{claim, test, Instruction, Layout, Module, Target, ANYTHING};
 
 /// Document 01's loop. From r1 = 0 it traps after [`LOOP_STEPS`] steps.
 pub fn document_loop() -> Module {
@@ -188,4 +188,82 @@ pub fn ring(layout: Layout, targets: usize, length: usize) -> Module {
 /// A branch that cuts nothing, so that its two edges have the same ranges. No instruction takes longer in a sweep.
 fn edge() -> Instruction {
     branch(0, 1, test::SIGNED_BELOW, 0)
+}
+
+/// The numbers of targets with which [`branching`] and [`tour`] are measured. Powers of two, so that they spread evenly.
+pub const TARGETS: [usize; 4] = [2, 16, 64, 256];
+
+/// An odd number of targets from one that is named to the next, so that all come in turn, and neighbours far apart.
+const STRIDE: usize = 37;
+
+/// 4,096 instructions, a quarter of them branches, which name all targets in turn. With another number of targets the
+/// code is the same but for these names.
+pub fn branching(targets: usize) -> Module {
+    let apart = 4096 / targets;
+    let index = |target: usize| (target % targets * apart) as u16;
+    let direct = (1..targets).map(|target| Target::direct(index(target), [ANYTHING; 8]));
+    let targets = [Target::indirect(0)].into_iter().chain(direct).collect();
+    let mut code = Vec::new();
+    for turn in (0..1024).step_by(4) {
+        let names = [0, 1, 2, 3].map(|more| index((turn + more) * STRIDE).into());
+        code.extend(branching_stretch(names));
+    }
+    code[4095] = jump(0);
+    Module {
+        layout: Layout::KNOWN,
+        code,
+        targets,
+    }
+}
+
+/// Sixteen instructions, with four branches to these indexes. They need nothing of the ranges before them.
+fn branching_stretch(names: [u32; 4]) -> [Instruction; 16] {
+    [
+        guard(1),
+        load(2, 1, 4, 0),
+        addi(1, 4),
+        branch(2, 3, test::BELOW, names[0]),
+        copy(4, 2),
+        add(4, 3),
+        store(4, 1, 2, -4),
+        branch(4, 5, test::EQUAL, names[1]),
+        set(5, 100),
+        sub(4, 5),
+        shr(4, 3),
+        branch(2, 4, test::SIGNED_BELOW, names[2]),
+        andi(6, 0xff),
+        sar(6, 2),
+        add(3, 6),
+        branch(6, 5, test::BELOW, names[3]),
+    ]
+}
+
+/// 4,096 instructions that never end by themselves: a tour of all targets in turn. Every other target is left by check
+/// and jumpr, the rest by a jump or a taken branch, so that three of four steps look a target up.
+pub fn tour(targets: usize) -> Module {
+    let mut code = Assembler::new(Layout::KNOWN);
+    // Targets stand in fours, with what no step reaches behind the last of them: a branch alone has a way on to it.
+    let apart = 4096 / targets.div_ceil(4);
+    for target in 0..targets {
+        let next = (target + STRIDE) % targets;
+        if target == 0 || target % 2 == 1 {
+            code.indirect(target);
+        } else {
+            code.direct(target, [ANYTHING; 8]);
+        }
+        if target % 2 == 0 {
+            code.put_to(set(7, 0), next);
+            code.put(&[check(7), jumpr(7)]);
+        } else if target % 4 == 1 && target + 1 < targets {
+            code.put_to(jump(0), next);
+        } else {
+            code.put_to(branch(0, 0, test::EQUAL, 0), next);
+            let end = (target / 4 + 1) * apart - 1;
+            while usize::from(code.here()) < end {
+                code.put(&[addi(0, 1)]);
+            }
+            code.put_to(jump(0), next);
+        }
+    }
+    code.finish()
 }

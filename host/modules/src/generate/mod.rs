@@ -1,11 +1,13 @@
 //! Generated files: accepted ones, ones that break a rule by a hair, damaged ones, ones whose verdict depends on
-//! document 02, and ones whose claims are to be worked out. And faults of tables that are to be written.
+//! document 02, ones whose claims are to be worked out, and ones whose targets are to be found. And faults of tables
+//! that are to be written.
 
 mod access;
 mod body;
 mod claims;
 mod damage;
 mod faults;
+mod grouped;
 mod growing;
 mod near;
 mod shape;
@@ -37,10 +39,12 @@ pub enum Origin {
     Signed,
     /// With garbled claims, and claims that grow when they are worked out.
     Growing,
+    /// Accepted, with targets where groups of 64 instructions begin and end.
+    Grouped,
 }
 
 impl Origin {
-    pub const ALL: [Origin; 8] = [
+    pub const ALL: [Origin; 9] = [
         Origin::Valid,
         Origin::Near,
         Origin::Damaged,
@@ -49,6 +53,7 @@ impl Origin {
         Origin::EmptyB,
         Origin::Signed,
         Origin::Growing,
+        Origin::Grouped,
     ];
 
     pub fn name(self) -> &'static str {
@@ -61,13 +66,14 @@ impl Origin {
             Origin::EmptyB => "empty B",
             Origin::Signed => "signed",
             Origin::Growing => "growing",
+            Origin::Grouped => "grouped",
         }
     }
 
     /// Whether the module is made to be accepted, or to be refused.
     pub fn accepted(self) -> Option<bool> {
         match self {
-            Origin::Valid | Origin::Narrowed => Some(true),
+            Origin::Valid | Origin::Narrowed | Origin::Grouped => Some(true),
             Origin::EmptyN | Origin::EmptyB | Origin::Signed => Some(false),
             Origin::Near | Origin::Damaged | Origin::Growing => None,
         }
@@ -94,7 +100,8 @@ pub struct Generated {
 /// A file of any origin.
 pub fn generate(random: &mut Random) -> Generated {
     let origin = match random.below(100) {
-        0..=25 => Origin::Valid,
+        0..=23 => Origin::Valid,
+        24 | 25 => Origin::Grouped,
         26..=65 => Origin::Near,
         66..=83 => Origin::Damaged,
         84..=91 => Origin::Growing,
@@ -115,6 +122,7 @@ pub fn generate_from(origin: Origin, random: &mut Random) -> Generated {
         Origin::EmptyN => turned::empty_n(random),
         Origin::EmptyB => turned::empty_b(random),
         Origin::Signed => turned::signed(random),
+        Origin::Grouped => grouped::module(random),
     };
     if origin == Origin::Near {
         near::break_rules(random, &mut module);
@@ -130,11 +138,13 @@ pub fn generate_from(origin: Origin, random: &mut Random) -> Generated {
     }
 }
 
-/// An accepted module, now and then one that rule N as it was refuses, or one whose claims are to be worked out.
+/// An accepted module, now and then one that rule N as it was refuses, one whose targets stand in groups, or one whose
+/// claims are to be worked out.
 fn whole(random: &mut Random) -> Module {
     match random.below(100) {
         0..=7 => turned::narrowed(random),
         8..=15 => growing::module(random),
+        16 => grouped::module(random),
         _ => valid::module(random),
     }
 }

@@ -12,7 +12,17 @@ pub fn module(random: &mut Random) -> Module {
     let layout = shape::layout(random);
     let (instructions, targets) = shape::counts(random);
     let indexes = shape::target_indexes(random, instructions, targets);
-    let mut claims = Claims::new(random, layout, &indexes);
+    with_targets(random, layout, instructions, &indexes)
+}
+
+/// A module whose targets stand at these indexes: 0 and others, rising.
+pub fn with_targets(
+    random: &mut Random,
+    layout: Layout,
+    instructions: usize,
+    indexes: &[usize],
+) -> Module {
+    let mut claims = Claims::new(random, layout, indexes);
     let mut code = Vec::with_capacity(instructions);
     for number in 0..indexes.len() {
         let end = indexes.get(number + 1).copied().unwrap_or(instructions);
