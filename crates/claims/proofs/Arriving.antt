@@ -10,8 +10,7 @@ use Rattle.model.specs.Lookup.{number_at}
 use Rattle.model.specs.File.{target_index, target_kind, target_in}
 use Rattle.model.specs.Claims.{Entry, entry_at, reached, reach_at, covers, Table, arrive}
 use Rattle.lookup.specs.Found.{target_found}
-use Rattle.lookup.proofs.Listed as Listed
-use Rattle.lookup.proofs.Listed.{Listed, found_listed, table_is}
+use Rattle.lookup.proofs.Listed.{number_tells, found_listed, table_is}
 use Rattle.reader.specs.Readings.{program}
 use Rattle.reader.specs.declared.module.Module.{Module}
 use Rattle.claims.specs.declared.entry.Row.{Row}
@@ -23,7 +22,7 @@ use Rattle.claims.proofs.Searching.{entry_missing, entry_found, entry_reached}
 pub named_below : (targets : List ℕ) (rows : List Row) (to : Option ℕ) {there : Option ℕ} → there ≡ option_and_then (number_at (listed targets rows)) to
     → (j : ℕ) → there ≡ Some j → j < length rows
 named_below targets rows None nowhere j is = absurd (none-some j (sym nowhere ∙ is))
-named_below targets rows (Some to) finds j is = (Listed.listed targets (length rows) to j (sym is ∙ finds)).below
+named_below targets rows (Some to) finds j is = (number_tells targets (length rows) to j (sym is ∙ finds)).below
 
 -- what is found of a module's targets is found of those that the table has rows for
 pub named_listed : (m : Module) (rows : List Row) → HasRows m rows → (to : Option ℕ) {there : Option ℕ}
@@ -33,13 +32,10 @@ named_listed m rows has to found =
     found ∙ ap (λ (ts : List Target). option_and_then (number_at ts) to) same
 
 module _ (targets : List ℕ) (rows : List Row) where
-  at_number : (to j : ℕ) → Some j ≡ number_at (listed targets rows) to → Listed targets (length rows) to j
-  at_number to j finds = Listed.listed targets (length rows) to j finds
-
   -- the target's entry, where one is found
   pub entry_there : (to j : ℕ) → Some j ≡ number_at (listed targets rows) to → entry_at (entries_in targets rows) to ≡ Some (entry_in targets rows j)
   entry_there to j finds =
-      let at = at_number to j finds in entry_found (entry_in targets rows) to j at.here at.first (length rows) at.below
+      let at = number_tells targets (length rows) to j finds in entry_found (entry_in targets rows) to j at.here at.first (length rows) at.below
 
   pub no_entry : (to : ℕ) → None ≡ number_at (listed targets rows) to → entry_at (entries_in targets rows) to ≡ None
   unfolding target_found target_in
@@ -73,7 +69,7 @@ module _ (targets : List ℕ) (rows : List Row) where
           → (to : Option ℕ) → Some j ≡ option_and_then (number_at (listed targets rows)) to → table_in targets (set rows j row) true ≡ along to ranges now
       arrives_reached is row wider None found = absurd (none-some j (sym found))
       arrives_reached is row wider (Some to) finds =
-          let at = at_number to j finds in
+          let at = number_tells targets (length rows) to j finds in
           let inside : j < length rows = at.below in
           simp length-set (ap (λ (es : List Entry). record { entries = es; changed = true })
           (sym (entry_reached (entry_in targets rows) to j at.here at.first ranges (entry_in targets (set rows j row))

@@ -3,7 +3,7 @@ use Prim.Native.Nat.{ℕ, zero, suc, ◌+◌, ◌/◌, ◌≤◌, ◌<◌}
 use mathlib.Core.Path.{◌≡◌, refl, sym, ap, ◌∙◌}
 use mathlib.Core.Bool.{Bool, true, false}
 use mathlib.Core.List.{List}
-use Rattle.std.specs.Prelude.{Option, None, Some, option_map}
+use Rattle.std.specs.Prelude.{Option, None, Some, is_some, option_map, slice_get}
 use Rattle.std.proofs.lemmas.Option.{none-some, same_Some}
 use native.Mathlib.Nat.{add-zero, zero-add}
 use native.Mathlib.Decide.{ℕ_discrete}
@@ -15,8 +15,10 @@ use Rattle.model.specs.declared.Layout.{Layout}
 use Rattle.model.specs.declared.Target.{Target}
 use Rattle.model.specs.Program.{target_at}
 use Rattle.model.specs.File.{tabulate, target_count, target_index, target_in, program_of}
-use Rattle.model.specs.Lookup.{number_at, Rising}
+use Rattle.model.specs.Lookup.{number_at, target_numbered, Rising}
+use Rattle.model.specs.Quantifiers.{any_of}
 use Rattle.model.specs.Rules.{ModulePlaced}
+use Rattle.model.proofs.Lookup.{numbered as numbered_target}
 use Rattle.model.proofs.Tabulate.{table_at, length-tabulate}
 use Rattle.reader.specs.Loading.{Loaded}
 use Rattle.lookup.specs.Found.{target_found}
@@ -59,23 +61,14 @@ module _ (f : ℕ → Target) (to : ℕ) where
           by_place (suc m) before here next behind =
               let moved : from + suc m ≡ suc from + m = omega arith in rw moved (behind.first m (omega arith))
 
-  -- and it is the number of the target that is found
-  table_numbered : (from count : ℕ)
-      → option_map (λ j. f (from + j)) (number_at (tabulate from count f) to) ≡ target_at (tabulate from count f) to
-  unfolding number_at target_at tabulate
-  table_numbered from zero = refl
-  table_numbered from (suc count) = by_test (table_numbered (suc from) count) (eqb (f from).index to)
-    where
-      one_later : (o : Option ℕ) → option_map (λ j. f (from + j)) (option_map suc o) ≡ option_map (λ j. f (suc from + j)) o
-      one_later None = refl
-      one_later (Some j) = ap (λ (i : ℕ). Some (f i)) (let moved : from + suc j ≡ suc from + j = omega arith in moved)
-
-      by_test : option_map (λ j. f (suc from + j)) (number_at (tabulate (suc from) count f) to) ≡ target_at (tabulate (suc from) count f) to
-          → (b : Bool)
-          → option_map (λ j. f (from + j)) (elim b [ true ↦ Some 0 | false ↦ option_map suc (number_at (tabulate (suc from) count f) to) ])
-          ≡ elim b [ true ↦ Some (f from) | false ↦ target_at (tabulate (suc from) count f) to ]
-      by_test later true = ap (λ (i : ℕ). Some (f i)) (add-zero from)
-      by_test later false = one_later (number_at (tabulate (suc from) count f) to) ∙ later
+-- the target of a number in a table of targets
+target_there : (f : ℕ → Target) (from count j : ℕ) → j < count → slice_get (tabulate from count f) j ≡ Some (f (from + j))
+unfolding tabulate
+target_there f from zero j below = absurd (omega arith)
+target_there f from (suc count) zero below = ap (λ (i : ℕ). Some (f i)) (sym (add-zero from))
+target_there f from (suc count) (suc j) below =
+    target_there f (suc from) count j (omega arith)
+    ∙ ap (λ (i : ℕ). Some (f i)) (let moved : suc from + j ≡ from + suc j = omega arith in moved)
 
 -- and so of the first k targets of the targets' bytes
 module _ (targets : List ℕ) (k : ℕ) where
@@ -84,9 +77,9 @@ module _ (targets : List ℕ) (k : ℕ) where
     pub here : target_index targets j ≡ to
     pub first : (i : ℕ) → i < j → target_index targets i ≡ to → ⊥
 
-  pub listed : (to j : ℕ) → Some j ≡ number_at (tabulate 0 k (target_in targets)) to → Listed to j
+  pub number_tells : (to j : ℕ) → Some j ≡ number_at (tabulate 0 k (target_in targets)) to → Listed to j
   unfolding target_in
-  listed to j is =
+  number_tells to j is =
       let facts = numbered (target_in targets) to 0 k j (sym is) in
       record {
         below = facts.below;
@@ -97,12 +90,18 @@ module _ (targets : List ℕ) (k : ℕ) where
   pub found_listed : (to : ℕ) (found : Option ℕ) → found ≡ number_at (tabulate 0 k (target_in targets)) to
       → target_found targets found ≡ target_at (tabulate 0 k (target_in targets)) to
   unfolding target_found
-  found_listed to found is =
-      by_number found ∙ ap (option_map (λ j. target_in targets (0 + j))) is ∙ table_numbered (target_in targets) to 0 k
-    where
-      by_number : (o : Option ℕ) → target_found targets o ≡ option_map (λ j. target_in targets (0 + j)) o
-      by_number None = refl
-      by_number (Some j) = ap (λ (i : ℕ). Some (target_in targets i)) (sym (zero-add j))
+  found_listed to None is =
+      ap (target_numbered (tabulate 0 k (target_in targets))) is ∙ numbered_target (tabulate 0 k (target_in targets)) to
+  found_listed to (Some j) is =
+      ap (λ (i : ℕ). Some (target_in targets i)) (sym (zero-add j))
+      ∙ sym (target_there (target_in targets) 0 k j (number_tells to j is).below)
+      ∙ ap (target_numbered (tabulate 0 k (target_in targets))) is ∙ numbered_target (tabulate 0 k (target_in targets)) to
+
+-- that a lookup found a target, in the bytes
+pub found_some : (targets : List ℕ) (found : Option ℕ) → is_some found ≡ any_of (target_found targets found) (λ t. true)
+unfolding target_found
+found_some targets None = refl
+found_some targets (Some j) = refl
 
 -- rule 7 has indexes rise
 kept_rises : {l : Layout} {code targets : List ℕ} → ModulePlaced l code targets → (i j : ℕ) → i < j → j < target_count targets

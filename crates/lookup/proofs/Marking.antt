@@ -23,13 +23,11 @@ use Rattle.model.specs.declared.Target.{Target}
 use Rattle.model.specs.Program.{target_at, is_target}
 use Rattle.model.specs.File.{tabulate}
 use Rattle.model.specs.Lookup.{bits_of_group, bit_table}
-use Rattle.model.proofs.Tabulate.{tabulate_at, table_at, tabulate_same, tabulate_is, tabulate_everywhere, length-tabulate}
+use Rattle.model.proofs.Lookup.{bit_of}
+use Rattle.model.proofs.Tabulate.{table_at, tabulate_same, tabulate_is, tabulate_everywhere, length-tabulate}
 
--- of the bits of a table of tests each is what its test answers
+-- the bits of a table of tests
 module _ (f : ℕ → Bool) (m w : ℕ) where
-  bit_is : (i : ℕ) → i < w → bit_at (mask_l (tabulate m w f)) i ≡ cond (f (m + i)) 1 0
-  bit_is i below = bit_mask_l (tabulate m w f) i ∙ ap (λ (b : Bool). cond b 1 0) (tabulate_at f false m w i below)
-
   mask_small : mask_l (tabulate m w f) < 2 ^ w
   mask_small = let small = mask_l-lt (tabulate m w f) in rw (length-tabulate m w f) at small
 
@@ -40,9 +38,9 @@ module _ (f : ℕ → Bool) (m w : ℕ) where
       same_from_bits_below w _ _ (or_lt w _ _ mask_small (pow_below b w below)) (let small = mask_l-lt (tabulate m w g) in rw (length-tabulate m w g) at small)
       (λ i inside.
       bit_at_or (mask_l (tabulate m w f)) (2 ^ b) i
-      ∙ ap (λ (r : ℕ). max r (bit_at (2 ^ b) i)) (bit_is i inside)
+      ∙ ap (λ (r : ℕ). max r (bit_at (2 ^ b) i)) (bit_of f m w i inside)
       ∙ by_place i (f (m + i)) refl (ℕ_discrete i b)
-      ∙ sym (bit_mask_l (tabulate m w g) i ∙ ap (λ (b : Bool). cond b 1 0) (tabulate_at g false m w i inside)))
+      ∙ sym (bit_of g m w i inside))
     where
       by_place : (i : ℕ) (t : Bool) → f (m + i) ≡ t → Dec (i ≡ b) → max (cond (f (m + i)) 1 0) (bit_at (2 ^ b) i) ≡ cond (g (m + i)) 1 0
       by_place i true was place = rw (besides (m + i), was) (omega (arith, bit_at-lt (2 ^ b) i))

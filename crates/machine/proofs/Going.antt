@@ -1,7 +1,5 @@
 -- Where a step goes: to the next index, or to a target that the lookup found, by the tests of the definitions. Assumes nothing.
-use Rattle.std.specs.Prelude.{◌≡◌, ℕ, ◌+◌, ◌-◌, ◌<◌, ◌≤◌, Bool, true, false, eqb, List, Option, None, Some, Ok, Err, MatchOption}
-use Rattle.std.specs.Option.{is_some}
-use mathlib.Core.Path.{refl}
+use Rattle.std.specs.Prelude.{◌≡◌, ℕ, ◌+◌, ◌-◌, ◌<◌, ◌≤◌, Bool, false, eqb, List, Option, None, Some, Ok, Err, MatchOption}
 use native.Mathlib.Omega.{arith}
 use borrow.Author.Tests.{lt-ltb, le-ltb}
 use Rattle.model.specs.declared.Ending.TheVariants.{Violated}
@@ -22,12 +20,7 @@ module _ (m : Module) (pc : ℕ) where
   unfolding onward_of
   strays_onward past = rw (program_count m, le-ltb (pc + 1) m.held.instructions (omega arith))
 
--- that a lookup found a target, and an indirect one
-pub found_some : (targets : List ℕ) (found : Option ℕ) → is_some found ≡ any_of (target_found targets found) (λ t. true)
-unfolding target_found
-found_some targets None = refl
-found_some targets (Some j) = refl
-
+-- that a lookup found an indirect target
 pub found_indirect : (targets : List ℕ) (found : Option ℕ) (r : Bool) (asked : ℕ → Type 0)
     → MatchOption found (r ≡ false) asked → ((j : ℕ) → asked j → r ≡ eqb (target_kind targets j) 1)
     → r ≡ any_of (target_found targets found) (λ t. t.indirect)

@@ -12,6 +12,7 @@ use native.Mathlib.Decide.{ℕ_discrete}
 use borrow.Author.Tests.{ltb-true, ltb-false, lt-ltb, le-ltb, eq-eqb, ne_eqb, eqb-true}
 use lib.Dec.{ltb, eqb}
 use lib.Lanes.{mask_l}
+use Rattle.std.specs.Int.{bit_at}
 use lib.ListN.{length, get_or}
 use Rattle.std.proofs.lemmas.Nat.{mod-pow-add}
 use Rattle.std.proofs.lemmas.Simd.{bit_mask_l, ones-mask_l_cons}
@@ -143,8 +144,11 @@ number_is (t ∷ ts) rising i = by_place (number_is ts (later_rise rising) i) (s
 
 module _ (f : ℕ → Bool) where
   -- a bit is what it stands for
+  pub bit_of : (m w b : ℕ) → b < w → bit_at (mask_l (tabulate m w f)) b ≡ cond (f (m + b)) 1 0
+  bit_of m w b below = bit_mask_l (tabulate m w f) b ∙ ap (λ (t : Bool). cond t 1 0) (tabulate_at f false m w b below)
+
   bit_is : (m w b : ℕ) → b < w → is_set (mask_l (tabulate m w f)) b ≡ f (m + b)
-  bit_is m w b below = ap (λ (r : ℕ). eqb r 1) (bit_mask_l (tabulate m w f) b) ∙ by_bit (get_or (tabulate m w f) b false) ∙ tabulate_at f false m w b below
+  bit_is m w b below = ap (λ (r : ℕ). eqb r 1) (bit_of m w b below) ∙ by_bit (f (m + b))
     where
       by_bit : (t : Bool) → eqb (cond t 1 0) 1 ≡ t
       by_bit true = refl
@@ -258,7 +262,7 @@ module _ {n : ℕ} (few : n ≤ most_instructions) (ts : List Target) (rising : 
       by_group false past = found_past (ltb-false (i / 64) 64 past)
 
 -- of the plain list, whatever it is, the target at an index is that of the number
-numbered : (ts : List Target) (i : ℕ) → target_numbered ts (number_at ts i) ≡ target_at ts i
+pub numbered : (ts : List Target) (i : ℕ) → target_numbered ts (number_at ts i) ≡ target_at ts i
 unfolding number_at target_at
 numbered [] i = refl
 numbered (t ∷ ts) i = by_test (numbered ts i) (eqb t.index i)
@@ -273,21 +277,10 @@ numbered (t ∷ ts) i = by_test (numbered ts i) (eqb t.index i)
     by_test rest true = refl
     by_test rest false = by_number (number_at ts i) ∙ rest
 
--- and there is one where there is the other
-there_numbered : (ts : List Target) (i : ℕ) → is_some (number_at ts i) ≡ is_target ts i
-unfolding number_at target_at
-there_numbered [] i = refl
-there_numbered (t ∷ ts) i = by_test (there_numbered ts i) (eqb t.index i)
-  where
-    by_number : (o : Option ℕ) → is_some (option_map suc o) ≡ is_some o
-    by_number None = refl
-    by_number (Some j) = refl
-
-    by_test : is_some (number_at ts i) ≡ is_target ts i → (b : Bool)
-        → is_some (elim b [ true ↦ Some 0 | false ↦ option_map suc (number_at ts i) ])
-        ≡ any_of (elim b [ true ↦ Some t | false ↦ target_at ts i ]) (λ u. true)
-    by_test rest true = refl
-    by_test rest false = by_number (number_at ts i) ∙ rest
+-- there is a number where there is a target
+there_is : (b : Bool) (j : ℕ) → is_some (cond b (Some j) None) ≡ b
+there_is true j = refl
+there_is false j = refl
 
 pub found_at_once : FoundAtOnce
 found_at_once = record {
@@ -295,7 +288,7 @@ found_at_once = record {
       let number : found_at n ts i ≡ number_at ts i = tables_find few ts rising i in
       let target : target_numbered ts (found_at n ts i) ≡ target_at ts i = ap (target_numbered ts) number ∙ numbered ts i in
       record {
-        there = ap is_some number ∙ there_numbered ts i;
+        there = ap is_some (number ∙ number_is ts rising i) ∙ there_is (is_target ts i) (targets_below ts i);
         number = number;
         target = target;
         indirect = ap (λ (o : Option Target). any_of o (λ t. t.indirect)) target;

@@ -23,7 +23,7 @@ use Rattle.reader.specs.Decoding.{Fetches}
 use Rattle.reader.specs.Loading.{Loaded}
 use Rattle.lookup.specs.Found.{target_found}
 use Rattle.reader.proofs.Fetching.{fetched, program_count}
-use Rattle.lookup.proofs.Listed.{found_target}
+use Rattle.lookup.proofs.Listed.{found_target, found_some}
 use Rattle.verifier.specs.Standing.{arrives_at, target_named}
 use Rattle.reader.specs.Readings.{program}
 use Rattle.verifier.specs.declared.rules.Place.{Place}
@@ -109,15 +109,11 @@ module _ (at : Place) where
 
   pub jumps_is : {x : Instruction} → at.instruction ≡ x
       → all_of (traits (shape x)).names (λ to. is_some at.named) ≡ jumps_to_target (program at.within.now) at.i
-  unfolding jumps_to_target target_found
+  unfolding jumps_to_target
   jumps_is is = ∥∥₁_elim named_is (hlevel props) (λ found.
       ap (λ (y : Instruction). all_of (traits (shape y)).names (λ to. is_some at.named)) (sym is ∙ at.standing.instruction_is)
-      ∙ by_name (traits_at (program at.within.now) at.i).names (some_found at.named ∙ ap (λ (o : Option Target). any_of o (λ t. true)) found))
+      ∙ by_name (traits_at (program at.within.now) at.i).names (found_some at.within.now.targets.now at.named ∙ ap (λ (o : Option Target). any_of o (λ t. true)) found))
     where
-      some_found : (o : Option ℕ) → is_some o ≡ any_of (target_found at.within.now.targets.now o) (λ t. true)
-      some_found None = refl
-      some_found (Some j) = refl
-
       by_name : (names : Option ℕ) → is_some at.named ≡ any_of (target_named (program at.within.now).targets names) (λ t. true)
           → all_of names (λ to. is_some at.named) ≡ all_of names (is_target (program at.within.now).targets)
       by_name None is = refl

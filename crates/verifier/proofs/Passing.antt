@@ -21,7 +21,7 @@ use Rattle.model.proofs.Faults.{index_faultless, index_faulty, indexes_done, ind
 use Rattle.reader.specs.declared.module.Module.{Module}
 use Rattle.reader.specs.Loading.{Loaded}
 use Rattle.lookup.specs.Found.{target_found}
-use Rattle.lookup.proofs.Listed.{found_target}
+use Rattle.lookup.proofs.Listed.{found_target, found_some}
 use Rattle.reader.proofs.Fetching.{program_count}
 use Rattle.verifier.specs.Standing.{arrives_at, arriving_at, wrapped_region, Standing}
 use Rattle.reader.specs.Readings.{program}
@@ -74,11 +74,6 @@ module _ (m : Module) (loaded : Loaded m.layout m.code.now m.targets.now m.held.
       found_here : target_found m.targets.now here ≡ target_at (program m).targets i
       found_here = found_target loaded i here pass.is_here
 
-      found_some : (o : Option ℕ) → is_some o ≡ any_of (target_found m.targets.now o) (λ t. true)
-      unfolding target_found
-      found_some None = refl
-      found_some (Some t) = refl
-
       pub rules_refuse : {f : Fault} → Some f ≡ first_fault (before_next (program m) i) → Some f ≡ first_fault (verified (program m))
       rules_refuse {f} broken =
           sym (index_faulty (at_index (program m)) i m.held.instructions f below (broken_before (program m) i f broken)) ∙ pass.rest
@@ -90,7 +85,7 @@ module _ (m : Module) (loaded : Loaded m.layout m.code.now m.targets.now m.held.
         standing is-marked is_named = record {
           below = below;
           is_arrives = pass.is_arrives;
-          is-marked = is-marked ∙ found_some here ∙ ap (λ (o : Option Target). any_of o (λ t. true)) found_here;
+          is-marked = is-marked ∙ found_some m.targets.now here ∙ ap (λ (o : Option Target). any_of o (λ t. true)) found_here;
           instruction_is = fetched;
           is_named = is_named ∙ ap (λ (y : Instruction). option_and_then (number_at (program m).targets) (traits (shape y)).names) fetched;
           is_known = enters ∙ rw (found_here, pass.is_arriving) (known_is (program m) i);

@@ -1,5 +1,5 @@
--- `claims::sweep::sweep_to_end` meets its contract. The loop's invariant: the entries are those that the definition comes to. The measure is
--- the room that they have left. Assumes nothing.
+-- `claims::sweep::sweep_to_end` meets its contract. The loop's invariant: the entries are those that the definition comes to. The
+-- measure is the room that they have left. Assumes nothing.
 use Rattle.model.proofs.Claims.FromFile.{module_fit}
 use Rattle.claims.proofs.Going.{goes_first, goes_counted, goes_given, goes_no_further, few_grown}
 use Rattle.claims.proofs.sweep.sweep_to_end.Goals as goal

@@ -1,5 +1,5 @@
--- `claims::sweep::sweep_to_end` meets its contract. The loop's invariant: the entries are those that the definition comes to. The measure is
--- the room that they have left. Assumes nothing.
+-- `claims::sweep::sweep_to_end` meets its contract. The loop's invariant: the entries are those that the definition comes to. The
+-- measure is the room that they have left. Assumes nothing.
 use Rattle.reader.specs.Readings.{program}
 use Rattle.model.proofs.Claims.Tables.{rooms}
 use Rattle.claims.specs.Tables.{entries_in}

@@ -1,6 +1,6 @@
 -- `machine::places::is_target` meets its contract: by what the lookup found. Assumes nothing.
 use mathlib.Core.Path.{◌∙◌}
-use Rattle.machine.proofs.Going.{found_some}
+use Rattle.lookup.proofs.Listed.{found_some}
 use Rattle.machine.proofs.Modules.{asked_of_found}
 use Rattle.machine.proofs.places.is_target.Goals as goal
 
