@@ -2,8 +2,8 @@
  * madsjirn: judges, runs and writes modules, and works out their claims. The interface of the proved library
  * libmadsjirn.a.
  *
- * Every function takes anything: any bytes as a file, any machine, memory, offset and budget, any numbers in tables.
- * There is nothing to test beforehand. The only demands are those of C on pointers:
+ * Every function takes anything: any bytes as a file, any limits, machine, memory, offset and budget, any numbers in
+ * tables. There is nothing to test beforehand. The only demands are those of C on pointers:
  *
  *   - a pointer is not NULL and is valid for its length, even where the length is 0: file, memory and buffer for
  *     file_length, memory_length and buffer_length bytes, machine for one madsjirn_machine, instructions and targets
@@ -18,6 +18,11 @@
  * writes out/libmadsjirn.a there: compile with -I include and link that file. A call of madsjirn_work_out writes less
  * than 24,000 bytes below its caller's stack pointer, one of any other function less than 1,700 (measured, not proved:
  * docs/PERFORMANCE.md). No call recurses or makes a system call.
+ *
+ * What judges a module for a device, or runs it there, is told the device's limits first: those of madsjirn_box or of
+ * madsjirn_plate. madsjirn_read and madsjirn_write know no device. Before document 02's ticket 8 there were no limits:
+ * code that was compiled with a header of that time still links, but hands its arguments over otherwise, so compile all
+ * of it anew.
  *
  * Answers are numbers: member refusal is 0, or the number of the first rule broken, in the documents' order, and
  * place says where: an offset into the file, or an index, as listed below. Where refusal is 0, place means
@@ -52,7 +57,7 @@ enum {
     MADSJIRN_BAD_INSTRUCTION = 6,  /* opcode, operand or unused byte; the lowest index */
     MADSJIRN_BAD_TARGET = 7,       /* "bad door"; the lowest target's number, counted from 0 */
 
-    /* The code; judged by madsjirn_verify and madsjirn_work_out. The place is the instruction's index. */
+    /* The code; judged by madsjirn_verify and madsjirn_work_out, after 17. The place is the instruction's index. */
     MADSJIRN_NO_TARGET = 8,        /* "no door": a jump or branch to what is no target */
     MADSJIRN_UNCHECKED_JUMP = 9,   /* jumpr without check of its register just before it, or itself a target */
     MADSJIRN_WILD_ACCESS = 10,     /* an access may reach outside the region and its guard zones */
@@ -60,13 +65,51 @@ enum {
     MADSJIRN_UNREACHABLE = 12,     /* "no way in": after halt, jump or jumpr, and no target */
     MADSJIRN_FALLS_OFF = 13,       /* "runs off": the last instruction is no halt, jump or jumpr */
 
-    /* The call; judged by madsjirn_run and madsjirn_step. The place is 0. */
+    /* The call; judged by madsjirn_run and madsjirn_step, after 17. The place is 0. */
     MADSJIRN_BAD_PC = 14,          /* "bad place": the machine's pc is no instruction's index */
     MADSJIRN_NO_ROOM = 15,         /* "no ground": offset + size exceeds memory_length */
 
     /* The buffer; judged by madsjirn_write. The place is 0. */
-    MADSJIRN_NO_SPACE = 16         /* the file is longer than buffer_length */
+    MADSJIRN_NO_SPACE = 16,        /* the file is longer than buffer_length */
+
+    /*
+     * The device; judged by madsjirn_verify, madsjirn_work_out, madsjirn_run and madsjirn_step, after 1 to 7 and before
+     * all others; nothing is worked out before it. The place is 0.
+     */
+    MADSJIRN_OVER_PLATE = 17       /* more instructions or more targets than the device's limits */
 };
+
+/*
+ * What a device holds, the first argument of the functions that ask for it: a module with more instructions or with
+ * more targets is refused by 17. Any numbers may stand here. 0 refuses every readable module, and no module has more
+ * than the box's.
+ *
+ * A module within the limits of two devices gets the same verdict, the same claims and the same run on both.
+ */
+typedef struct {
+    uint32_t instructions;
+    uint32_t targets; /* "doors" */
+} madsjirn_limits;
+
+/* Where this header alone is compiled, nobody calls the two functions: no warning of that. */
+#ifdef __GNUC__
+#define MADSJIRN_MAYBE_UNUSED __attribute__((unused))
+#else
+#define MADSJIRN_MAYBE_UNUSED
+#endif
+
+/* The box: as many as a file can have, so that it never refuses by 17. */
+MADSJIRN_MAYBE_UNUSED static inline madsjirn_limits madsjirn_box(void) {
+    const madsjirn_limits limits = {4096, 256};
+    return limits;
+}
+
+/* The scale plate: the longest module that it takes has 6,293 bytes. */
+MADSJIRN_MAYBE_UNUSED static inline madsjirn_limits madsjirn_plate(void) {
+    const madsjirn_limits limits = {512, 32};
+    return limits;
+}
+#undef MADSJIRN_MAYBE_UNUSED
 
 /* Endings of a run. */
 enum {
@@ -148,10 +191,10 @@ typedef struct {
 
 /* What madsjirn_verify and madsjirn_work_out answer. Where refusal is not 0, all members after place are 0. */
 typedef struct {
-    uint32_t refusal;      /* 0: accepted; or 1 to 13, by madsjirn_work_out never 11 */
+    uint32_t refusal;      /* 0: accepted; or 1 to 13, by madsjirn_work_out never 11; or 17 */
     uint32_t place;
-    uint32_t instructions; /* 1 to 4,096 */
-    uint32_t targets;      /* "doors", 1 to 256 */
+    uint32_t instructions; /* 1 to 4,096, and at most limits.instructions */
+    uint32_t targets;      /* "doors", 1 to 256, and at most limits.targets */
 } madsjirn_verdict;
 
 /*
@@ -162,7 +205,7 @@ typedef struct {
  * passes and takes answers otherwise: compile all of it anew.
  */
 typedef struct {
-    uint32_t refusal; /* 0: the run was made; or 1 to 7, 14, 15 */
+    uint32_t refusal; /* 0: the run was made; or 1 to 7, 14, 15, 17 */
     uint32_t place;
     uint32_t ending;  /* MADSJIRN_HALTED to MADSJIRN_OUT_OF_BUDGET; MADSJIRN_REFUSED where refusal is not 0 */
     uint64_t steps;   /* the steps made, the ending one included; 0 where refusal is not 0 */
@@ -178,13 +221,13 @@ typedef struct {
 /*
  * Reads a module file: rules 1 to 7.
  *
- * Yields refusal 0 with layout and counts if the file is readable, that is, if a run of it can be made;
- * else the first rule broken, and the rest 0. Changes nothing.
+ * Yields refusal 0 with layout and counts if the file is readable, that is, if a run of it can be made on a device that
+ * holds so much; else the first rule broken, and the rest 0. Changes nothing. The counts say which devices do.
  */
 madsjirn_module madsjirn_read(const uint8_t *file, size_t file_length);
 
 /*
- * Judges a module file: rules 1 to 13.
+ * Judges a module file for a device: rules 1 to 7, then 17, then 8 to 13.
  *
  * Yields refusal 0 with the counts exactly if the module keeps every rule; else the first rule broken, and the
  * rest 0. Changes nothing.
@@ -193,49 +236,51 @@ madsjirn_module madsjirn_read(const uint8_t *file, size_t file_length);
  * it on the machine that this one left, ends as MADSJIRN_VIOLATED, whatever the host writes into the region before
  * and between them. Index 0 is an indirect target of every module.
  */
-madsjirn_verdict madsjirn_verify(const uint8_t *file, size_t file_length);
+madsjirn_verdict madsjirn_verify(madsjirn_limits limits, const uint8_t *file, size_t file_length);
 
 /*
  * Works out the claims of a module's direct targets ("inner doors"), for builders that have no tool for it, and judges
- * the module with them: document 02's ticket 3.
+ * the module with them for a device: document 02's ticket 3.
  *
  * The claims of direct targets in file are ignored, whatever they are, also those whose lowest value exceeds the
  * highest. They count for nothing in rule 7; all else of it does: indexes, kinds, the zero byte and the claims of
  * indirect targets.
  *
  * Yields refusal 0 with the counts if the module keeps every rule with the claims worked out. These are then written
- * over those of the direct targets in file, and no other byte changes. madsjirn_verify accepts what is in file then,
- * with the same counts, and what is said there of runs holds; worked out again it stays as it is.
+ * over those of the direct targets in file, and no other byte changes. madsjirn_verify accepts what is in file then, by
+ * the same limits and with the same counts, and what is said there of runs holds; worked out again it stays as it is.
  *
- * Else yields the first rule broken, and the rest 0: 1 to 7 as said, or what madsjirn_verify answers of the module with
- * the claims worked out. A refused call leaves every byte of file as it was. It does not mean that there are no claims
- * with which the module is accepted: narrower ones may exist.
+ * Else yields the first rule broken, and the rest 0: 1 to 7 as said, then 17, before anything is worked out, or what
+ * madsjirn_verify answers of the module with the claims worked out. A refused call leaves every byte of file as it was.
+ * It does not mean that there are no claims with which the module is accepted: narrower ones may exist.
  *
  * A module can be made so that a call takes seconds (measured: docs/PERFORMANCE.md).
  */
-madsjirn_verdict madsjirn_work_out(uint8_t *file, size_t file_length);
+madsjirn_verdict madsjirn_work_out(madsjirn_limits limits, uint8_t *file, size_t file_length);
 
 /*
  * Runs a module on machine, from machine->pc on, for at most budget steps. The region is the module's size
  * bytes of memory from offset on: memory[offset] has the address base.
  *
- * The module need only be readable. Refusals: 1 to 7 for the file, then 14, then 15, whatever the budget. A
- * refused call leaves machine and every byte of memory as they were: ending is MADSJIRN_REFUSED, steps is 0.
+ * The module need only be readable and within the limits. Refusals: 1 to 7 for the file, then 17, then 14, then 15,
+ * whatever the budget. A refused call leaves machine and every byte of memory as they were: ending is
+ * MADSJIRN_REFUSED, steps is 0.
  *
  * Else refusal is 0, and ending and steps say how the run ended and how many steps it made. It changes nothing
  * but the registers and pc of machine, and size bytes of memory at offset. A step that ends the run (halted,
  * trapped, denied, violated) is counted and changes nothing; machine->pc stays at that instruction. After
  * MADSJIRN_OUT_OF_BUDGET a further call goes on where this one stopped.
  */
-madsjirn_answer madsjirn_run(const uint8_t *file, size_t file_length, madsjirn_machine *machine, uint8_t *memory,
-                             size_t memory_length, size_t offset, uint64_t budget);
+madsjirn_answer madsjirn_run(madsjirn_limits limits, const uint8_t *file, size_t file_length,
+                             madsjirn_machine *machine, uint8_t *memory, size_t memory_length, size_t offset,
+                             uint64_t budget);
 
 /*
  * Makes one step: madsjirn_run with budget 1. A step after which the run could go on ends as
  * MADSJIRN_OUT_OF_BUDGET.
  */
-madsjirn_answer madsjirn_step(const uint8_t *file, size_t file_length, madsjirn_machine *machine, uint8_t *memory,
-                              size_t memory_length, size_t offset);
+madsjirn_answer madsjirn_step(madsjirn_limits limits, const uint8_t *file, size_t file_length,
+                              madsjirn_machine *machine, uint8_t *memory, size_t memory_length, size_t offset);
 
 /*
  * Writes a module file from its tables, for builders: document 02's ticket 5. The tables are the layout, which is base,
@@ -258,8 +303,8 @@ madsjirn_answer madsjirn_step(const uint8_t *file, size_t file_length, madsjirn_
  * An op, a, b, w, index or kind that is too large for its field in the file is out of range, and so 6 or 7; no number
  * is cut. A refused call leaves every byte of buffer as it was.
  *
- * The code and its claims are not judged: what was written has still to be accepted by madsjirn_verify, or by
- * madsjirn_work_out, for which a direct target may claim anything.
+ * The code and its claims are not judged, and no device is asked for: what was written has still to be accepted by
+ * madsjirn_verify, or by madsjirn_work_out, for which a direct target may claim anything.
  */
 madsjirn_written madsjirn_write(uint32_t base, uint32_t size, uint32_t guard,
                                 const madsjirn_instruction *instructions, size_t instruction_count,
@@ -274,6 +319,7 @@ madsjirn_written madsjirn_write(uint32_t base, uint32_t size, uint32_t guard,
 #else
 #define MADSJIRN_ASSERT_SIZE(type, size) typedef char type##_has_its_size[sizeof(type) == (size) ? 1 : -1]
 #endif
+MADSJIRN_ASSERT_SIZE(madsjirn_limits, 8);
 MADSJIRN_ASSERT_SIZE(madsjirn_machine, 36);
 MADSJIRN_ASSERT_SIZE(madsjirn_module, 28);
 MADSJIRN_ASSERT_SIZE(madsjirn_verdict, 16);

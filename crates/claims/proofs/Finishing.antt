@@ -5,22 +5,24 @@ use mathlib.Core.List.{append-nil}
 use lib.ListN.{length-append, take-append-drop, drop_of_length-le}
 use lib.Seq.{length-take-le, take_all, take_at, drop_at}
 use Rattle.model.specs.declared.Layout.{Layout}
+use Rattle.model.specs.declared.Limits.{Limits}
 use Rattle.model.specs.declared.Refusal.{Refusal}
 use Rattle.model.specs.declared.Target.{Target}
 use Rattle.model.specs.declared.Contents.{Contents}
 use Rattle.std.specs.Prelude.{Result, Ok, Err}
 use Rattle.model.specs.Answers.{judgement_of, fault_of, accepted, refused}
 use Rattle.model.specs.Obligations.{first_fault}
-use Rattle.model.specs.File.{value_at, targets_at, code_in, targets_in, sweepable, program_of, program_in}
+use Rattle.model.specs.File.{value_at, targets_at, code_in, targets_in, program_of, program_in}
+use Rattle.model.specs.Limits.{sweepable}
 use Rattle.model.specs.Judgement.{judgement}
-use Rattle.model.specs.Claims.{finished, worked_out, with_claims, write_claims, finished_file, after_sweeping, work_out}
+use Rattle.model.specs.Claims.{finished, worked_out, with_claims, write_claims, finished_file, work_out}
 use Rattle.model.specs.Promises.{AreBytes}
 use Rattle.model.proofs.Stretches.{targets_rest, file_length, value_bytes}
 use Rattle.model.proofs.Tabulate.{map-tabulate}
 use Rattle.model.proofs.Claims.Exchanged.{front}
 use Rattle.model.proofs.Claims.Finished.{finished_is}
-use Rattle.model.proofs.Claims.Answering.{judged_answer}
-use Rattle.reader.proofs.Passes.{ReadFacts}
+use Rattle.model.proofs.Claims.Answering.{judged_answer, early_answer}
+use Rattle.reader.proofs.Passes.{ReadFacts, LoadFacts}
 use Rattle.claims.specs.declared.entry.Row.{Row}
 use Rattle.claims.specs.Tables.{entry_in, entries_in}
 use Rattle.claims.specs.Exchanges.{targets_with, Exchanged}
@@ -52,7 +54,10 @@ finished_rows targets rows =
 
 -- ---- the file
 
-module _ {file : List ℕ} {l : Layout} {n k : ℕ} (read : ReadFacts false file l n k) where
+module _ {limits : Limits} {file : List ℕ} {l : Layout} {n k : ℕ} (load : LoadFacts false limits file l n k) where
+  abbrev read : ReadFacts false file l n k
+  read = load.read
+
   pub targets_fit : 68 * k ≤ length file
   targets_fit = omega (arith, file_length file read.kept, read.is_targets)
 
@@ -122,23 +127,23 @@ module _ {file : List ℕ} {l : Layout} {n k : ℕ} (read : ReadFacts false file
 
   -- ---- what is answered
 
-  module _ (v : Result Contents Refusal) {judged : List ℕ} (is : judged ≡ finished_file file) (answers : judgement_of v ≡ judgement judged) where
-    judged_as_lem : judgement (finished_file file) ≡ judgement_of v
-    judged_as_lem = ap judgement (sym is) ∙ sym answers
+  module _ (v : Result Contents Refusal) {judged : List ℕ} (is : judged ≡ finished_file file) (answers : judgement_of v ≡ judgement limits judged) where
+    judged_as_lem : judgement limits (finished_file file) ≡ judgement_of v
+    judged_as_lem = ap (judgement limits) (sym is) ∙ sym answers
 
-    pub finished_accepted : (held : Contents) → v ≡ Ok held → record { judgement = judgement_of v; bytes = judged } ≡ work_out file
+    pub finished_accepted : (held : Contents) → v ≡ Ok held → record { judgement = judgement_of v; bytes = judged } ≡ work_out limits file
     unfolding judgement_of
     finished_accepted held accepts =
-        rw (accepts, is) (sym (judged_answer file read.faultless (accepted held.instructions held.targets) (judged_as_lem ∙ ap judgement_of accepts)))
+        rw (accepts, is) (sym (judged_answer limits file load.found (accepted held.instructions held.targets) (judged_as_lem ∙ ap judgement_of accepts)))
 
     pub finished_refused : (x : Refusal) → v ≡ Err x → {after : List ℕ} → after ≡ file
-        → record { judgement = judgement_of v; bytes = after } ≡ work_out file
+        → record { judgement = judgement_of v; bytes = after } ≡ work_out limits file
     unfolding judgement_of
     finished_refused x refuses same =
-        rw (refuses, same) (sym (judged_answer file read.faultless (refused (fault_of x)) (judged_as_lem ∙ ap judgement_of refuses)))
+        rw (refuses, same) (sym (judged_answer limits file load.found (refused (fault_of x)) (judged_as_lem ∙ ap judgement_of refuses)))
 
 -- a file that is refused before sweeping
-pub refused_early : (file : List ℕ) (x : Refusal) → first_fault (sweepable file) ≡ Some (fault_of x)
-    → record { judgement = judgement_of (Err x); bytes = file } ≡ work_out file
-unfolding judgement_of work_out
-refused_early file x found = sym (ap (after_sweeping file) found)
+pub refused_early : (limits : Limits) (file : List ℕ) (x : Refusal) → first_fault (sweepable limits file) ≡ Some (fault_of x)
+    → record { judgement = judgement_of (Err x); bytes = file } ≡ work_out limits file
+unfolding judgement_of
+refused_early limits file x found = sym (early_answer limits file (fault_of x) found)

@@ -3,7 +3,7 @@
 // Its input here is document 01's loop.
 #![tactic(auto)]
 
-use model::{Machine, Outcome, Steps};
+use model::{Limits, Machine, Outcome, Steps};
 use std::io;
 
 // How many bytes of the input are read, at most.
@@ -23,6 +23,7 @@ fn main(rt: HostRuntime) -> io::Result<()> {
         pc: 0,
     };
     let Outcome { machine, answer } = machine::value::run(
+        Limits::BOX,
         &buffer[..n],
         start,
         &mut memory,

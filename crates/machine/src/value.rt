@@ -1,22 +1,24 @@
-// Step and run with the machine by value: it goes in, and comes back in the outcome. The five arguments are what a host lends.
+// Step and run with the machine by value: it goes in, and comes back in the outcome. The arguments are the device's limits and what a host
+// lends.
 ghost use Rattle.model.specs.Run.{RunPost};
 ghost use Rattle.machine.specs.Core.{seen_of, seen_by};
 
 use crate::stepping;
 use lookup::{GROUPS, Indexed};
-use model::{Answer, Machine, Outcome, Refusal, Rule, Steps};
+use model::{Answer, Limits, Machine, Outcome, Refusal, Rule, Steps};
 
-// Refusals 1 to 7, then 14, then 15, then the steps.
+// Refusals 1 to 7, then 17, then 14, then 15, then the steps.
 fn run_if_kept(
+    limits: Limits,
     file: &[u8],
     machine: Machine,
     memory: &mut [u8],
     offset: usize,
     budget: Steps,
 ) -> Result<Outcome, Refusal>
-    ensures { RunPost file.now machine memory.old offset budget (seen_by machine result memory.new) }
+    ensures { RunPost limits file.now machine memory.old offset budget (seen_by machine result memory.new) }
 {
-    let module = reader::read::read(file)?;
+    let module = reader::read::load(limits, file)?;
     if module.held.instructions <= u32::from(machine.pc) {
         return Err(Rule::BadPc.at(0));
     }
@@ -34,15 +36,16 @@ fn run_if_kept(
 
 // A run of the module in `file`, on the region that begins at `offset` of the memory, with a budget of steps.
 pub fn run(
+    limits: Limits,
     file: &[u8],
     machine: Machine,
     memory: &mut [u8],
     offset: usize,
     budget: Steps,
 ) -> Outcome
-    ensures { RunPost file.now machine memory.old offset budget (seen_of result.answer result.machine memory.new) }
+    ensures { RunPost limits file.now machine memory.old offset budget (seen_of result.answer result.machine memory.new) }
 {
-    match run_if_kept(file, machine, memory, offset, budget) {
+    match run_if_kept(limits, file, machine, memory, offset, budget) {
         Ok(outcome) => outcome,
         Err(refusal) => Outcome {
             machine,
@@ -55,8 +58,14 @@ pub fn run(
 }
 
 // "A single step is a run with budget 1."
-pub fn step(file: &[u8], machine: Machine, memory: &mut [u8], offset: usize) -> Outcome
-    ensures { RunPost file.now machine memory.old offset 1 (seen_of result.answer result.machine memory.new) }
+pub fn step(
+    limits: Limits,
+    file: &[u8],
+    machine: Machine,
+    memory: &mut [u8],
+    offset: usize,
+) -> Outcome
+    ensures { RunPost limits file.now machine memory.old offset 1 (seen_of result.answer result.machine memory.new) }
 {
-    run(file, machine, memory, offset, 1)
+    run(limits, file, machine, memory, offset, 1)
 }

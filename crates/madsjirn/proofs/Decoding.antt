@@ -11,6 +11,7 @@ use native.Mathlib.Omega.{arith}
 use lib.Dec.{eqb, eqb-suc-zero}
 use Rattle.model.specs.declared.Ending.{Ending}
 use Rattle.model.specs.declared.Ending.TheVariants.{Halted, Trapped, Denied, Violated, OutOfBudget}
+use Rattle.model.specs.declared.Limits.{Limits}
 use Rattle.model.specs.declared.Machine.{Machine}
 use Rattle.model.specs.Obligations.{Fault, first_fault}
 use Rattle.model.specs.Answers.{ending_number, Judgement, accepted, refused}
@@ -19,7 +20,7 @@ use Rattle.model.specs.Judgement.{judgement}
 use Rattle.model.specs.Claims.{work_out}
 use Rattle.model.specs.Writer.{Tables, WriteReport, wrote, unwritten, write}
 use Rattle.model.specs.Run.{Run, run, stretch, finished, runnable, unless_refused, run_on}
-use Rattle.model.proofs.Numbers.{readable_listed, judged_listed, refused_judged, runnable_listed}
+use Rattle.model.proofs.Numbers.{ForVerdict, readable_listed, judged_listed, refused_judged, runnable_listed}
 use Rattle.model.proofs.Claims.Answering.{worked_out_judged}
 use Rattle.model.proofs.Writer.Refusing.{writer_refuses}
 use Rattle.reader.specs.Readings.{read_report, reading_by, reading}
@@ -51,11 +52,14 @@ unfolding verdict_numbers
 zero_accepts (accepted n k) above same = record { instructions = n; targets = k; is = refl }
 zero_accepts (refused f) above same = absurd (omega (arith, above f refl))
 
-verdict_numbered : (file : List ℕ) → Numbered (judgement file)
-verdict_numbered file f is = (judged_listed file f (refused_judged file f is)).0
+listed_above : {n : ℕ} → ForVerdict n → 1 ≤ n
+listed_above = ⊎_elim (λ low. low.0) (λ over. omega (arith, over))
 
-worked_numbered : (file : List ℕ) → Numbered (work_out file).judgement
-worked_numbered file f is = (worked_out_judged.numbered file f is).0
+verdict_numbered : (limits : Limits) (file : List ℕ) → Numbered (judgement limits file)
+verdict_numbered limits file f is = listed_above (judged_listed limits file f (refused_judged limits file f is))
+
+worked_numbered : (limits : Limits) (file : List ℕ) → Numbered (work_out limits file).judgement
+worked_numbered limits file f is = listed_above (worked_out_judged.numbered limits file f is)
 
 reading_carried : (file : List ℕ) → reading_in (module_numbers (reading file)) ≡ reading file
 unfolding reading_by reading_in module_numbers
@@ -86,12 +90,14 @@ ending_carried Denied = refl
 ending_carried Violated = refl
 ending_carried OutOfBudget = refl
 
-pub report_carried : (file : List ℕ) (m : Machine) (memory : List ℕ) (offset budget : ℕ)
-    → report_in (run_numbers (run_on file m memory offset budget).report) ≡ (run_on file m memory offset budget).report
+pub report_carried : (limits : Limits) (file : List ℕ) (m : Machine) (memory : List ℕ) (offset budget : ℕ)
+    → report_in (run_numbers (run_on limits file m memory offset budget).report) ≡ (run_on limits file m memory offset budget).report
 unfolding run_on report_in run_numbers
-report_carried file m memory offset budget =
+report_carried limits file m memory offset budget =
     by_fault (run (program_in file) budget m (stretch offset size memory))
-    (first_fault (runnable file m memory offset)) (λ f e. ⊎_elim (λ low. low.0) (λ high. omega (arith, high.0)) (runnable_listed file m memory offset f e))
+    (first_fault (runnable limits file m memory offset))
+    (λ f e.
+    ⊎_elim (⊎_elim (λ low. low.0) (λ high. omega (arith, high.0))) (λ over. omega (arith, over)) (runnable_listed limits file m memory offset f e))
   where
     size : ℕ
     size = (layout_in file).size
@@ -103,16 +109,18 @@ report_carried file m memory offset budget =
     by_fault r (Some f) above = is_refusal f.number _ _ (above f refl)
 
 -- no refusal's number in an answer means that the module is accepted
-pub verdict_passed : (file : List ℕ) → (verdict_numbers (judgement file)).refusal ≡ 0 → IsAccepted (judgement file)
-verdict_passed file = zero_accepts (judgement file) (verdict_numbered file)
+pub verdict_passed : (limits : Limits) (file : List ℕ) → (verdict_numbers (judgement limits file)).refusal ≡ 0
+    → IsAccepted (judgement limits file)
+verdict_passed limits file = zero_accepts (judgement limits file) (verdict_numbered limits file)
 
-pub worked_passed : (file : List ℕ) → (verdict_numbers (work_out file).judgement).refusal ≡ 0 → IsAccepted (work_out file).judgement
-worked_passed file = zero_accepts (work_out file).judgement (worked_numbered file)
+pub worked_passed : (limits : Limits) (file : List ℕ) → (verdict_numbers (work_out limits file).judgement).refusal ≡ 0
+    → IsAccepted (work_out limits file).judgement
+worked_passed limits file = zero_accepts (work_out limits file).judgement (worked_numbered limits file)
 
 pub numbers_carried : NumbersCarried
 numbers_carried = record {
-  verdict = λ file. carried (judgement file) (verdict_numbered file);
-  worked_out_file = λ file. carried (work_out file).judgement (worked_numbered file);
+  verdict = λ limits file. carried (judgement limits file) (verdict_numbered limits file);
+  worked_out_file = λ limits file. carried (work_out limits file).judgement (worked_numbered limits file);
   layout = reading_carried;
   written = written_carried;
   call = report_carried;

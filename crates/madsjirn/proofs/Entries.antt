@@ -4,8 +4,9 @@
 use Prim.Native.Nat.{ℕ, ◌+◌}
 use mathlib.Core.Path.{◌≡◌, refl, sym, ap, ◌∙◌}
 use mathlib.Core.List.{List, [], ◌∷◌}
-use Rattle.std.specs.Prelude.{None, Ok}
+use Rattle.std.specs.Prelude.{None}
 use native.Mathlib.Nat.{mod-eq_of_lt}
+use Rattle.model.specs.declared.Limits.{Limits}
 use Rattle.model.specs.declared.Machine.{Machine}
 use Rattle.model.specs.Answers.{accepted, judgement_of}
 use Rattle.model.specs.File.{program_in}
@@ -15,6 +16,7 @@ use Rattle.model.specs.Run.{Seen, RunPost, run_on}
 use Rattle.model.specs.Counts.{step_bits, in_bits}
 use Rattle.model.specs.Walk.{Call, host_writes, Called}
 use Rattle.model.specs.Walk as Walk
+use Rattle.model.proofs.Numbers.{accepted_judged}
 use Rattle.model.proofs.Counts.{counts_carried}
 use Rattle.model.proofs.JoiningCalls.{runs_join}
 use Rattle.model.proofs.Claims.Answering.{worked_out_judged}
@@ -27,77 +29,77 @@ use Rattle.madsjirn.specs.Entries.{LetIn, verified, verified_by_number, worked_o
 use Rattle.madsjirn.proofs.Decoding.{report_carried, verdict_passed, worked_passed}
 
 -- what is read back from the numbers of an exported call is the model's
-numbers_post : {file : List ℕ} {m : Machine} {memory : List ℕ} {offset budget : ℕ} (a : RunAnswer) (m' : Machine) (after : List ℕ)
-    → Leaves (run_on file m memory offset budget) a m' after → RunPost file m memory offset budget (seen_in a m' after)
-numbers_post {file} {m} {memory} {offset} {budget} a m' after left =
-    let told : report_in a ≡ (run_on file m memory offset budget).report =
-    ap report_in left.numbers ∙ report_carried file m memory offset budget in
+numbers_post : {limits : Limits} {file : List ℕ} {m : Machine} {memory : List ℕ} {offset budget : ℕ} (a : RunAnswer) (m' : Machine) (after : List ℕ)
+    → Leaves (run_on limits file m memory offset budget) a m' after → RunPost limits file m memory offset budget (seen_in a m' after)
+numbers_post {limits} {file} {m} {memory} {offset} {budget} a m' after left =
+    let told : report_in a ≡ (run_on limits file m memory offset budget).report =
+    ap report_in left.numbers ∙ report_carried limits file m memory offset budget in
     record { is = λ i. record { report = told i; machine = left.machine_is i; memory = left.memory_is i } }
 
-entry_post : {file : List ℕ} {m : Machine} {memory : List ℕ} {offset budget : ℕ} {s : Seen}
-    → EntryPost file m memory offset budget s → RunPost file m memory offset budget s
+entry_post : {limits : Limits} {file : List ℕ} {m : Machine} {memory : List ℕ} {offset budget : ℕ} {s : Seen}
+    → EntryPost limits file m memory offset budget s → RunPost limits file m memory offset budget s
 entry_post (by_value o after post) = post
 entry_post (over_lent a m' after post) = post
 entry_post (exported a m' after left) = numbers_post a m' after left
 
-called : {file : List ℕ} {m : Machine} {memory : List ℕ} {calls : List Call} {seen : List Seen}
-    → Hosted file m memory calls seen → Called file m memory calls seen
+called : {limits : Limits} {file : List ℕ} {m : Machine} {memory : List ℕ} {calls : List Call} {seen : List Seen}
+    → Hosted limits file m memory calls seen → Called limits file m memory calls seen
 called done = Walk.done
 called (call answered rest) = Walk.call (entry_post answered) (called rest)
 
 -- an accepted file breaks no rule, and neither does one that claims were worked out for
-none_broken : (file : List ℕ) (n k : ℕ) → judgement file ≡ accepted n k → first_broken file ≡ None
-unfolding judgement_of
-none_broken file n k is = accepted_means file (Ok (record { instructions = n; targets = k })) _ (sym is) refl
+left_accepted : (limits : Limits) (came : List ℕ) (n k : ℕ) {file : List ℕ} → file ≡ (work_out limits came).bytes
+    → (work_out limits came).judgement ≡ accepted n k → first_broken limits file ≡ None
+left_accepted limits came n k is accepts =
+    rw is (accepted_judged limits (work_out limits came).bytes n k (worked_out_judged.stands limits came n k accepts))
 
-left_accepted : (came : List ℕ) (n k : ℕ) {file : List ℕ} → file ≡ (work_out came).bytes → (work_out came).judgement ≡ accepted n k
-    → first_broken file ≡ None
-left_accepted came n k is accepts = rw is (none_broken (work_out came).bytes n k (worked_out_judged.stands came n k accepts))
-
-let_in : {file : List ℕ} → LetIn file → first_broken file ≡ None
+let_in : {limits : Limits} {file : List ℕ} → LetIn limits file → first_broken limits file ≡ None
 unfolding judgement_of
-let_in {file} (verified v held meant answered) = accepted_means file v held meant answered
-let_in {file} (verified_by_number v numbers zero_number) =
-    let passed = verdict_passed file (sym (ap (λ (w : VerdictAnswer). w.refusal) numbers) ∙ zero_number) in
-    none_broken file _ _ passed.is
-let_in {file} (worked_out_file came v held meant answered) =
-    left_accepted came held.instructions held.targets (ap (λ (a : Answered). a.bytes) meant) (sym (ap (λ (a : Answered). a.judgement) meant) ∙ ap judgement_of answered)
-let_in {file} (worked_out_by_number came v left zero_number) =
-    let passed = worked_passed came (sym (ap (λ (w : VerdictAnswer). w.refusal) left.numbers) ∙ zero_number) in
-    left_accepted came _ _ left.file_is passed.is
+let_in {limits} {file} (verified v held meant answered) = accepted_means limits file v held meant answered
+let_in {limits} {file} (verified_by_number v numbers zero_number) =
+    let passed = verdict_passed limits file (sym (ap (λ (w : VerdictAnswer). w.refusal) numbers) ∙ zero_number) in
+    accepted_judged limits file _ _ passed.is
+let_in {limits} {file} (worked_out_file came v held meant answered) =
+    left_accepted limits came held.instructions held.targets (ap (λ (a : Answered). a.bytes) meant) (sym (ap (λ (a : Answered). a.judgement) meant) ∙ ap judgement_of answered)
+let_in {limits} {file} (worked_out_by_number came v left zero_number) =
+    let passed = worked_passed limits came (sym (ap (λ (w : VerdictAnswer). w.refusal) left.numbers) ∙ zero_number) in
+    left_accepted limits came _ _ left.file_is passed.is
 
 pub hosted_safety : HostedSafety
 hosted_safety = record {
-  safe = λ file m memory calls seen let-in-by bytes at_indirect words written hosted.
-      safety.safe file m memory calls seen
+  safe = λ limits file m memory calls seen let-in-by bytes at_indirect words written hosted.
+      safety.safe limits file m memory calls seen
       (record { bytes = bytes; accepted = let_in let-in-by; at_indirect = at_indirect; registers = words; written = written })
       (called hosted);
 }
 
 pub hosted_earlier : HostedEarlier
 hosted_earlier = record {
-  earlier = λ file m memory offset budget seen fits answered. counts_carried.earlier file m memory offset budget seen fits (entry_post answered);
+  earlier = λ limits file m memory offset budget seen fits answered.
+      counts_carried.earlier limits file m memory offset budget seen fits (entry_post answered);
 }
 
 pub hosted_join : HostedJoin
 hosted_join = record {
-  join = λ file m memory offset first more made before after one fits was spent then both.
+  join = λ limits file m memory offset first more made before after one fits was spent then both.
       let same : in_bits step_bits (first + more) ≡ first + more = mod-eq_of_lt fits in
-      runs_join file m memory offset first more made before after one (entry_post was) spent (entry_post then)
+      runs_join limits file m memory offset first more made before after one (entry_post was) spent (entry_post then)
       (rw same at (entry_post both));
 }
 
-let_in_passed : (file : List ℕ) → first_broken file ≡ None → LetIn file
+let_in_passed : (limits : Limits) (file : List ℕ) → first_broken limits file ≡ None → LetIn limits file
 unfolding judgement verdict_numbers
-let_in_passed file passes = verified_by_number (verdict_numbers (judgement file)) refl (ap (λ o. (verdict_numbers (concluded file o)).refusal) passes)
+let_in_passed limits file passes =
+    verified_by_number (verdict_numbers (judgement limits file)) refl (ap (λ o. (verdict_numbers (concluded file o)).refusal) passes)
 
 -- each call answers the model's numbers
-answer_all : (file : List ℕ) (m : Machine) (memory : List ℕ) (calls : List Call) → (seen : List Seen) × Hosted file m memory calls seen
-answer_all file m memory [] = ([], done)
-answer_all file m memory (c ∷ cs) =
-    let s : Seen = run_on file m (host_writes (program_in file) memory c) c.offset c.budget in
+answer_all : (limits : Limits) (file : List ℕ) (m : Machine) (memory : List ℕ) (calls : List Call)
+    → (seen : List Seen) × Hosted limits file m memory calls seen
+answer_all limits file m memory [] = ([], done)
+answer_all limits file m memory (c ∷ cs) =
+    let s : Seen = run_on limits file m (host_writes (program_in file) memory c) c.offset c.budget in
     let left : Leaves s (run_numbers s.report) s.machine s.memory = record { numbers = refl; machine_is = refl; memory_is = refl } in
-    let rest = answer_all file s.machine s.memory cs in
+    let rest = answer_all limits file s.machine s.memory cs in
     (seen_in (run_numbers s.report) s.machine s.memory ∷ rest.0, call (exported _ _ _ left) rest.1)
 
 pub hosted_answers : HostedAnswers

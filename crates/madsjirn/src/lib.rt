@@ -1,5 +1,6 @@
 // The gatekeeper as a static library, for hosts in C and Rust: read, verify, work out claims, run and step on any bytes, and write, with
 // answers of plain numbers. A slice is a pointer and a length. Nothing is asked of a host beforehand but that its references are valid.
+// What judges a module for a device takes its limits first; read and write know a file's own rules alone.
 #![tactic(auto)]
 
 pub mod answers;
@@ -14,7 +15,7 @@ ghost use Rattle.writer.specs.Rows.{tables_of};
 ghost use Rattle.madsjirn.specs.Numbers.{module_numbers, verdict_numbers, Leaves, LeavesFile, LeavesBuffer};
 
 use crate::answers::{ModuleAnswer, RunAnswer, VerdictAnswer, WriteAnswer};
-use model::{Layout, Machine, Steps};
+use model::{Layout, Limits, Machine, Steps};
 use writer::row::InstructionRow;
 use writer::target::TargetRow;
 
@@ -26,21 +27,21 @@ pub extern "C" fn madsjirn_read(file: &[u8]) -> ModuleAnswer
     ModuleAnswer::from(reader::read::read(file))
 }
 
-// The verdict on a module's bytes: its counts, or the first of refusals 1 to 13.
+// A device's verdict on a module's bytes: its counts, or the first of refusals 1 to 7, 17 and 8 to 13.
 #[unsafe(no_mangle)]
-pub extern "C" fn madsjirn_verify(file: &[u8]) -> VerdictAnswer
-    ensures { result ≡ verdict_numbers (judgement file.now) }
+pub extern "C" fn madsjirn_verify(limits: Limits, file: &[u8]) -> VerdictAnswer
+    ensures { result ≡ verdict_numbers (judgement limits file.now) }
 {
-    VerdictAnswer::from(verifier::verify::verify(file))
+    VerdictAnswer::from(verifier::verify::verify(limits, file))
 }
 
 // The same on a module's bytes with the claims of its direct targets worked out: where it is accepted they hold these claims, and where
 // it is refused they are as they came.
 #[unsafe(no_mangle)]
-pub extern "C" fn madsjirn_work_out(file: &mut [u8]) -> VerdictAnswer
-    ensures { LeavesFile (work_out file.old) result file.new }
+pub extern "C" fn madsjirn_work_out(limits: Limits, file: &mut [u8]) -> VerdictAnswer
+    ensures { LeavesFile (work_out limits file.old) result file.new }
 {
-    VerdictAnswer::from(claims::work_out::work_out(file))
+    VerdictAnswer::from(claims::work_out::work_out(limits, file))
 }
 
 // The file of a layout, a table of instructions and one of targets into the first bytes of the buffer: its length, or the first of
@@ -61,30 +62,32 @@ pub extern "C" fn madsjirn_write(
 }
 
 // A run of the module in `file` from the machine that is lent, on the region that begins at `offset` of the memory, with a budget
-// of steps: how it ended, or the first of refusals 1 to 7, 14 and 15.
+// of steps: how it ended, or the first of refusals 1 to 7, 17, 14 and 15.
 #[unsafe(no_mangle)]
 pub extern "C" fn madsjirn_run(
+    limits: Limits,
     file: &[u8],
     machine: &mut Machine,
     memory: &mut [u8],
     offset: usize,
     budget: Steps,
 ) -> RunAnswer
-    ensures { Leaves (run_on file.now machine.old memory.old offset budget) result machine.new memory.new }
+    ensures { Leaves (run_on limits file.now machine.old memory.old offset budget) result machine.new memory.new }
 {
-    let answer = machine::lent::run(file, machine, memory, offset, budget);
+    let answer = machine::lent::run(limits, file, machine, memory, offset, budget);
     RunAnswer::from(answer)
 }
 
 // A single step: a run with budget 1.
 #[unsafe(no_mangle)]
 pub extern "C" fn madsjirn_step(
+    limits: Limits,
     file: &[u8],
     machine: &mut Machine,
     memory: &mut [u8],
     offset: usize,
 ) -> RunAnswer
-    ensures { Leaves (run_on file.now machine.old memory.old offset 1) result machine.new memory.new }
+    ensures { Leaves (run_on limits file.now machine.old memory.old offset 1) result machine.new memory.new }
 {
-    RunAnswer::from(machine::lent::step(file, machine, memory, offset))
+    RunAnswer::from(machine::lent::step(limits, file, machine, memory, offset))
 }

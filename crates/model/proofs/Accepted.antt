@@ -1,25 +1,29 @@
 -- Demand 2 for the verdict: a file is accepted exactly if it keeps every rule, and a refusal names the first rule broken, in the
 -- listed order. Assumes nothing.
-use Prim.Native.Nat.{ℕ, ◌<◌}
-use mathlib.Core.Path.{◌≡◌}
-use mathlib.Core.Bool.{Bool}
+use Prim.Native.Nat.{ℕ, ◌≤◌, ◌<◌}
+use mathlib.Core.Path.{◌≡◌, refl}
+use mathlib.Core.Bool.{Bool, true, false, ◌&&◌}
 use mathlib.Core.Logic.Iff
 use mathlib.Core.Logic.{◌↔◌}
-use mathlib.Core.List.{List}
+use mathlib.Core.List.{List, []}
 use Rattle.std.specs.Prelude.{Option, None, Some}
 use native.Mathlib.Omega.{arith}
+use lib.Dec.{leb}
 use lib.ListN.{length}
 use Rattle.model.specs.declared.Instruction.{Instruction}
 use Rattle.model.specs.declared.Layout.{Layout}
+use Rattle.model.specs.declared.Limits.{Limits}
 use Rattle.model.specs.declared.Machine.{Machine}
-use Rattle.model.specs.Obligations.{Fault, first_fault, AllMet, FirstUnmet}
+use Rattle.model.specs.Obligations.{Fault, fault, first_fault, AllMet, FirstUnmet}
 use Rattle.model.specs.Program.{Program}
-use Rattle.model.specs.File.{most_instructions, most_targets, is_listed, field, code_start, targets_at, code_in, targets_in, instruction_count, target_count, layout_in, instruction_in, TargetRow, target_row_in, instruction_rules, target_rules, table_rules, module_rules, readable_by, readable, sweepable, program_in}
+use Rattle.model.specs.File.{most_instructions, most_targets, is_listed, field, code_start, targets_at, code_in, targets_in, instruction_count, target_count, layout_in, instruction_in, TargetRow, target_row_in, instruction_rules, target_rules, table_rules, module_rules, is_placed_target, readable_by, readable, program_in}
+use Rattle.model.specs.Limits.{limit_rules, loadable_by, loadable, sweepable}
 use Rattle.model.specs.Judgement.{at_index, verified, obligations, first_broken}
-use Rattle.model.specs.Rules.{FieldKept, SomeOf, LayoutKept, InstructionKept, ModuleHolds, FileHolds, FileKept, FilePlaced, IndexKept, KeepsEveryRule, Runnable}
+use Rattle.model.specs.Rules.{FieldKept, SomeOf, LayoutKept, InstructionKept, ModuleHolds, FileHolds, FileKept, FilePlaced, WithinLimits, HeldBy, IndexKept, KeepsEveryRule, Runnable}
 use Rattle.model.specs.Run.{runnable}
 use Rattle.model.proofs.Obligations.{none_iff_met, first_unmet, append_met, append_fault, each_met, each_one}
-use Rattle.model.proofs.Reflection.{Reflects, le_reflects, lt_reflects, eq_reflects, multiple_reflects}
+use Rattle.model.proofs.Faults.{head_unmet, one_met}
+use Rattle.model.proofs.Reflection.{Reflects, le_reflects, lt_reflects, eq_reflects, and_reflects, multiple_reflects}
 use Rattle.model.proofs.FileRules.{field_kept, layout_reflects, instruction_reflects, placed_reflects, target_reflects}
 use Rattle.model.proofs.CodeRules.{index_kept}
 
@@ -41,6 +45,27 @@ module_tables Good l code targets = (
   λ h. record { layout = h.layout; each_instruction = h.each_instruction; each_target = h.each_target },
   λ h. record { layout = h.layout; each_instruction = h.each_instruction; each_target = h.each_target },
 )
+
+-- 17
+pub limits_iff : (limits : Limits) (n k : ℕ) → (first_fault (limit_rules limits n k) ≡ None) ↔ WithinLimits limits n k
+unfolding limit_rules
+limits_iff limits n k =
+    Iff.trans (none_iff_met _) (
+      λ h. let both = within.0 h.0 in record { instructions = both.0; targets = both.1 },
+      λ w. (within.1 (w.instructions, w.targets), tt),
+    )
+  where
+    within : Reflects (leb n limits.instructions && leb k limits.targets) ((n ≤ limits.instructions) × (k ≤ limits.targets))
+    within = and_reflects (le_reflects n limits.instructions) (le_reflects k limits.targets)
+
+untrue : (b : Bool) → (b ≡ true → ⊥) → b ≡ false
+untrue true never = absurd (never refl)
+untrue false never = refl
+
+-- where a limit is passed it is named
+pub limits_over : (limits : Limits) (n k : ℕ) → (WithinLimits limits n k → ⊥) → first_fault (limit_rules limits n k) ≡ Some (fault 17 0)
+unfolding limit_rules
+limits_over limits n k over = head_unmet _ [] (untrue _ (λ met. over ((limits_iff limits n k).0 (one_met _ met))))
 
 module _ {good : ℕ → (ℕ → TargetRow) → ℕ → Bool} {Good : ℕ → (ℕ → TargetRow) → ℕ → Type 0} (judges : Judges good Good) where
   -- rules 5 and 6, and that one
@@ -111,13 +136,29 @@ module _ {good : ℕ → (ℕ → TargetRow) → ℕ → Bool} {Good : ℕ → (
             ),
           )
 
+  -- and on a device, 17
+  pub loadable_iff : (limits : Limits) (file : List ℕ) → (first_fault (loadable_by good limits file) ≡ None) ↔ (FileHolds Good file × HeldBy limits file)
+  unfolding loadable_by
+  loadable_iff limits file =
+      Iff.trans (append_fault (readable_by good file) _) (
+        λ h. ((holds_iff file).0 h.0, (limits_iff limits _ _).0 h.1),
+        λ k. ((holds_iff file).1 k.0, (limits_iff limits _ _).1 k.1),
+      )
+
 -- rules 1 to 7
 pub readable_iff : (file : List ℕ) → (first_fault (readable file) ≡ None) ↔ FileKept file
 readable_iff = holds_iff target_reflects
 
 -- and these but for the order of claims' ends
-pub sweepable_iff : (file : List ℕ) → (first_fault (sweepable file) ≡ None) ↔ FilePlaced file
-sweepable_iff = holds_iff placed_reflects
+pub placed_iff : (file : List ℕ) → (first_fault (readable_by is_placed_target file) ≡ None) ↔ FilePlaced file
+placed_iff = holds_iff placed_reflects
+
+-- either, and 17
+pub kept_iff : (limits : Limits) (file : List ℕ) → (first_fault (loadable limits file) ≡ None) ↔ (FileKept file × HeldBy limits file)
+kept_iff = loadable_iff target_reflects
+
+pub sweepable_iff : (limits : Limits) (file : List ℕ) → (first_fault (sweepable limits file) ≡ None) ↔ (FilePlaced file × HeldBy limits file)
+sweepable_iff = loadable_iff placed_reflects
 
 -- rules 8 to 13
 pub verified_iff : (p : Program) → AllMet (verified p) ↔ ((i : ℕ) → i < length p.code → IndexKept p i)
@@ -128,39 +169,41 @@ verified_iff p = (
 )
 
 -- accepted exactly if every rule is kept
-pub accepted_iff : (file : List ℕ) → (first_broken file ≡ None) ↔ KeepsEveryRule file
+pub accepted_iff : (limits : Limits) (file : List ℕ) → (first_broken limits file ≡ None) ↔ KeepsEveryRule limits file
 unfolding first_broken obligations
-accepted_iff file =
-    Iff.trans (append_fault (readable file) (verified (program_in file))) (
+accepted_iff limits file =
+    Iff.trans (append_fault (loadable limits file) (verified (program_in file))) (
       λ h. record {
-        file_rules = (readable_iff file).0 h.0;
+        file_rules = ((kept_iff limits file).0 h.0).0;
+        held = ((kept_iff limits file).0 h.0).1;
         code_rules = (verified_iff (program_in file)).0 ((none_iff_met (verified (program_in file))).0 h.1);
       },
-      λ k. ((readable_iff file).1 k.file_rules, (none_iff_met (verified (program_in file))).1 ((verified_iff (program_in file)).1 k.code_rules)),
+      λ k. ((kept_iff limits file).1 (k.file_rules, k.held), (none_iff_met (verified (program_in file))).1 ((verified_iff (program_in file)).1 k.code_rules)),
     )
 
 -- a refusal is the first in the listed order: everything judged earlier passes, and it itself fails
-pub refusal_first : (file : List ℕ) (f : Fault) → first_broken file ≡ Some f → FirstUnmet (obligations file) f
+pub refusal_first : (limits : Limits) (file : List ℕ) (f : Fault) → first_broken limits file ≡ Some f → FirstUnmet (obligations limits file) f
 unfolding first_broken
-refusal_first file f e = first_unmet (obligations file) f e
+refusal_first limits file f e = first_unmet (obligations limits file) f e
 
--- and so is the refusal of a run: 1 to 7, then 14, then 15
-pub run_refusal_first : (file : List ℕ) (m : Machine) (memory : List ℕ) (offset : ℕ) (f : Fault)
-    → first_fault (runnable file m memory offset) ≡ Some f → FirstUnmet (runnable file m memory offset) f
-run_refusal_first file m memory offset f e = first_unmet (runnable file m memory offset) f e
+-- and so is the refusal of a run: 1 to 7, then 17, then 14, then 15
+pub run_refusal_first : (limits : Limits) (file : List ℕ) (m : Machine) (memory : List ℕ) (offset : ℕ) (f : Fault)
+    → first_fault (runnable limits file m memory offset) ≡ Some f → FirstUnmet (runnable limits file m memory offset) f
+run_refusal_first limits file m memory offset f e = first_unmet (runnable limits file m memory offset) f e
 
 -- a run is not refused exactly if it has what it asks for
-pub runnable_iff : (file : List ℕ) (m : Machine) (memory : List ℕ) (offset : ℕ)
-    → (first_fault (runnable file m memory offset) ≡ None) ↔ Runnable file m memory offset
+pub runnable_iff : (limits : Limits) (file : List ℕ) (m : Machine) (memory : List ℕ) (offset : ℕ)
+    → (first_fault (runnable limits file m memory offset) ≡ None) ↔ Runnable limits file m memory offset
 unfolding runnable
-runnable_iff file m memory offset =
-    Iff.trans (append_fault (readable file) _) (
+runnable_iff limits file m memory offset =
+    Iff.trans (append_fault (loadable limits file) _) (
       λ h.
           let last = (none_iff_met _).0 h.1 in
           record {
-            file_rules = (readable_iff file).0 h.0;
+            file_rules = ((kept_iff limits file).0 h.0).0;
+            held = ((kept_iff limits file).0 h.0).1;
             pc_inside = (lt_reflects _ _).0 last.0;
             fits = (le_reflects _ _).0 last.1.0;
           },
-      λ k. ((readable_iff file).1 k.file_rules, (none_iff_met _).1 ((lt_reflects _ _).1 k.pc_inside, ((le_reflects _ _).1 k.fits, tt))),
+      λ k. ((kept_iff limits file).1 (k.file_rules, k.held), (none_iff_met _).1 ((lt_reflects _ _).1 k.pc_inside, ((le_reflects _ _).1 k.fits, tt))),
     )

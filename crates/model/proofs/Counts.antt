@@ -8,6 +8,7 @@ use native.Mathlib.Nat.{mod-eq_of_lt}
 use native.Mathlib.Omega.{arith}
 use Rattle.model.specs.declared.Ending.{Ending}
 use Rattle.model.specs.declared.Ending.TheVariants.{OutOfBudget}
+use Rattle.model.specs.declared.Limits.{Limits}
 use Rattle.model.specs.declared.Machine.{Machine}
 use Rattle.model.specs.Obligations.{Fault, first_fault}
 use Rattle.model.specs.Answers.{Report, ended, rejected, steps_in}
@@ -32,10 +33,10 @@ steps_within p (suc budget) m bs =
     let s : Step = step p m bs in
     followed_within s (run p budget s.machine s.region) budget s.ending (steps_within p budget s.machine s.region)
 
-module _ (file : List ℕ) (m : Machine) (memory : List ℕ) (offset : ℕ) where
-  count_within : (budget : ℕ) → steps_in (run_on file m memory offset budget).report ≤ budget
+module _ (limits : Limits) (file : List ℕ) (m : Machine) (memory : List ℕ) (offset : ℕ) where
+  count_within : (budget : ℕ) → steps_in (run_on limits file m memory offset budget).report ≤ budget
   unfolding run_on
-  count_within budget = by_fault (first_fault (runnable file m memory offset))
+  count_within budget = by_fault (first_fault (runnable limits file m memory offset))
     where
       whole : Run
       whole = run (program_in file) budget m (stretch offset (layout_in file).size memory)
@@ -51,34 +52,34 @@ module _ (file : List ℕ) (m : Machine) (memory : List ℕ) (offset : ℕ) wher
   count_kept bits (rejected f made) fits = ap (rejected f) (mod-eq_of_lt fits)
 
   -- the run in a width that holds the budget
-  run_kept : (bits budget : ℕ) → budget < 2 ^ bits → run_in bits file m memory offset budget ≡ run_on file m memory offset budget
+  run_kept : (bits budget : ℕ) → budget < 2 ^ bits → run_in bits limits file m memory offset budget ≡ run_on limits file m memory offset budget
   unfolding run_in
   run_kept bits budget fits =
       let same : in_bits bits budget ≡ budget = mod-eq_of_lt fits in
-      rw same (with_count (run_on file m memory offset budget) (count_kept bits _ (omega (arith, count_within budget))))
+      rw same (with_count (run_on limits file m memory offset budget) (count_kept bits _ (omega (arith, count_within budget))))
     where
       with_count : (seen : Seen) → count_in bits seen.report ≡ seen.report
           → record { report = count_in bits seen.report; machine = seen.machine; memory = seen.memory } ≡ seen
       with_count seen is = λ i. record { report = is i; machine = seen.machine; memory = seen.memory }
 
 -- two runs in a row, in a width that holds both budgets together
-runs_joined : (bits : ℕ) (file : List ℕ) (m : Machine) (memory : List ℕ) (offset first more made : ℕ) → first + more < 2 ^ bits
-    → (run_in bits file m memory offset first).report ≡ ended OutOfBudget made
-    → run_in bits file m memory offset (first + more)
+runs_joined : (bits : ℕ) (limits : Limits) (file : List ℕ) (m : Machine) (memory : List ℕ) (offset first more made : ℕ) → first + more < 2 ^ bits
+    → (run_in bits limits file m memory offset first).report ≡ ended OutOfBudget made
+    → run_in bits limits file m memory offset (first + more)
     ≡ seen_after made
-    (run_in bits file (run_in bits file m memory offset first).machine (run_in bits file m memory offset first).memory offset more)
-runs_joined bits file m memory offset first more made fits spent =
-    let before = run_kept file m memory offset bits first (omega arith) in
-    let left : Seen = run_on file m memory offset first in
-    rw (run_kept file m memory offset bits (first + more) fits, before)
-    (joining_calls file m memory offset first more made (rw before at spent)
-    ∙ ap (seen_after made) (sym (run_kept file left.machine left.memory offset bits more (omega arith))))
+    (run_in bits limits file (run_in bits limits file m memory offset first).machine (run_in bits limits file m memory offset first).memory offset more)
+runs_joined bits limits file m memory offset first more made fits spent =
+    let before = run_kept limits file m memory offset bits first (omega arith) in
+    let left : Seen = run_on limits file m memory offset first in
+    rw (run_kept limits file m memory offset bits (first + more) fits, before)
+    (joining_calls limits file m memory offset first more made (rw before at spent)
+    ∙ ap (seen_after made) (sym (run_kept limits file left.machine left.memory offset bits more (omega arith))))
 
 pub counts_carried : CountsCarried
 counts_carried = record {
   width = refl;
   within = count_within;
-  kept = λ bits file m memory offset budget fits. run_kept file m memory offset bits budget fits;
-  earlier = λ file m memory offset budget seen fits post. post.is ∙ sym (run_kept file m memory offset earlier_step_bits budget fits);
+  kept = λ bits limits file m memory offset budget fits. run_kept limits file m memory offset bits budget fits;
+  earlier = λ limits file m memory offset budget seen fits post. post.is ∙ sym (run_kept limits file m memory offset earlier_step_bits budget fits);
   join = runs_joined;
 }

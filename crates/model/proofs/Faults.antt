@@ -1,7 +1,7 @@
 -- The first fault of obligations that are judged one after another: of a first one and the rest, of two lists, and of a list for
 -- each index from one on, as a loop over the indexes meets them. By the definition's steps. Assumes nothing.
 use Prim.Native.Nat.{ℕ, suc, ◌+◌, ◌-◌, ◌≤◌, ◌<◌}
-use mathlib.Core.Path.{◌≡◌, refl, ap, ◌∙◌}
+use mathlib.Core.Path.{◌≡◌, refl, sym, ap, ◌∙◌}
 use mathlib.Core.Bool.{Bool, true, false}
 use mathlib.Core.List.{List, [], ◌∷◌, ◌++◌}
 use Rattle.std.specs.Prelude.{Option, None, Some}
@@ -50,6 +50,11 @@ module _ (xs ys : List Obligation) where
   pub append_faulty : (f : Fault) → first_fault xs ≡ Some f → first_fault (xs ++ ys) ≡ Some f
   unfolding earlier
   append_faulty f faulty = append_earlier xs ys ∙ rw faulty
+
+-- what comes behind two lists with one fault
+pub append_alike : (xs ys later : List Obligation) → first_fault xs ≡ first_fault ys → first_fault (xs ++ later) ≡ first_fault (ys ++ later)
+append_alike xs ys later same =
+    append_earlier xs later ∙ ap (λ o. earlier o (first_fault later)) same ∙ sym (append_earlier ys later)
 
 -- a list for each index from i on, below n
 module _ (g : ℕ → List Obligation) (i n : ℕ) where

@@ -34,4 +34,5 @@ pub mod Rows
 pub mod Line
 pub mod Claims
 pub mod Writer
+pub mod Devices
 pub mod Promises

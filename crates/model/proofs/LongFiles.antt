@@ -11,8 +11,10 @@ use lib.Dec.{leb, eqb}
 use lib.ListN.{length, take}
 use lib.Seq.{get_or-take, length-take-le}
 use borrow.Author.Tests.{le-leb, ne_eqb}
+use Rattle.model.specs.declared.Limits.{Limits}
 use Rattle.model.specs.Obligations.{Fault, fault, Obligation, owes, first_fault}
 use Rattle.model.specs.File.{byte_at, field_length, value_at, field_end, most_instructions, most_targets, is_multiple, is_listed, field, code_start, targets_at, readable_by, readable}
+use Rattle.model.specs.Limits.{loadable_by, loadable}
 use Rattle.model.specs.Judgement.{obligations, first_broken, concluded, judgement}
 use Rattle.model.proofs.Faults.{append_faulty}
 use Rattle.model.proofs.Reflection.{eq_reflects, multiple_reflects}
@@ -112,16 +114,21 @@ module _ (file : List ℕ) (m : ℕ) (long : 50198 ≤ m) (inside : m ≤ length
       same : field_length front at ≡ field_length file at
       same = same_length at (omega arith)
 
-  refused_alike : RefusedAlike (obligations front) (obligations file)
-  unfolding obligations readable_by is_listed
-  refused_alike =
-      followed_alike (readable front) (readable file) _ _
-      (field_alike 0 1 12 (λ n listed. omega (arith, (eq_reflects n 12).0 listed)) (omega arith)
+  read_alike : RefusedAlike (readable front) (readable file)
+  unfolding readable_by is_listed
+  read_alike =
+      field_alike 0 1 12 (λ n listed. omega (arith, (eq_reflects n 12).0 listed)) (omega arith)
       (λ layout. field_alike code_start 2 (8 * most_instructions) (λ n. multiple_short 8 most_instructions n (omega arith)) (omega arith)
       (λ code. tail_alike (targets_at front) (targets_at file)
-      (ap (λ (n : ℕ). value_at code_start + n) (same_length code_start (omega arith))) (omega arith) _ _)))
+      (ap (λ (n : ℕ). value_at code_start + n) (same_length code_start (omega arith))) (omega arith) _ _))
+
+  -- and so what is judged after them does not matter
+  refused_alike : (limits : Limits) → RefusedAlike (obligations limits front) (obligations limits file)
+  unfolding obligations loadable_by
+  refused_alike limits =
+      followed_alike (loadable limits front) (loadable limits file) _ _ (followed_alike (readable front) (readable file) _ _ read_alike)
 
   -- the fault is the same, and so is the answer
-  pub long_file : judgement (take m file) ≡ judgement file
+  pub long_file : (limits : Limits) → judgement limits (take m file) ≡ judgement limits file
   unfolding judgement first_broken
-  long_file = ap (concluded front) refused_alike.first ∙ sym (ap (concluded file) refused_alike.second)
+  long_file limits = ap (concluded front) (refused_alike limits).first ∙ sym (ap (concluded file) (refused_alike limits).second)

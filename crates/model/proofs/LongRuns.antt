@@ -17,6 +17,7 @@ use Rattle.model.specs.Program.{Program, target_at}
 use Rattle.model.specs.Instructions.{shape}
 use Rattle.model.specs.Step.{effect, settle, step_of, step}
 use Rattle.model.specs.File.{program_in}
+use Rattle.model.specs.Limits.{box_limits}
 use Rattle.model.specs.Judgement.{first_broken}
 use Rattle.model.specs.Rules.{Runnable}
 use Rattle.model.specs.Run.{Run, run, steps, Seen, run_on}
@@ -62,25 +63,26 @@ decoded : program_in counting ≡ looped
 unfolding counting verdict
 decoded = refl
 
-counting_accepted : first_broken counting ≡ None
+counting_accepted : first_broken box_limits counting ≡ None
 unfolding counting verdict
 counting_accepted = refl
 
-runs : (registers memory : List ℕ) → 256 ≤ length memory → Runnable counting (at registers 0) memory 0
+runs : (registers memory : List ℕ) → 256 ≤ length memory → Runnable box_limits counting (at registers 0) memory 0
 unfolding counting verdict
 runs registers memory room = record {
-  file_rules = ((accepted_iff counting).0 counting_accepted).file_rules;
+  file_rules = ((accepted_iff box_limits counting).0 counting_accepted).file_rules;
+  held = ((accepted_iff box_limits counting).0 counting_accepted).held;
   pc_inside = omega arith;
   fits = omega (arith, room);
 }
 
 counts : (registers memory : List ℕ) (budget : ℕ) → 256 ≤ length memory
-    → (run_on counting (at registers 0) memory 0 budget).report ≡ ended OutOfBudget budget
+    → (run_on box_limits counting (at registers 0) memory 0 budget).report ≡ ended OutOfBudget budget
 counts registers memory budget room =
-    ap (λ (s : Seen). s.report) (run_on_runs counting (at registers 0) memory 0 budget (runs registers memory room))
+    ap (λ (s : Seen). s.report) (run_on_runs box_limits counting (at registers 0) memory 0 budget (runs registers memory room))
     ∙ rw decoded (let spent = (spins budget registers _).0 in λ i. ended (spent.ending i) (spent.count i))
 
-from_start : (budget : ℕ) → (run_on counting start zeros 0 budget).report ≡ ended OutOfBudget budget
+from_start : (budget : ℕ) → (run_on box_limits counting start zeros 0 budget).report ≡ ended OutOfBudget budget
 from_start budget = counts start.registers zeros budget (omega (arith, length-replicate {A = ℕ} 4096 0))
 
 pub long_runs : LongRuns

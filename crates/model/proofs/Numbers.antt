@@ -10,10 +10,13 @@ use Rattle.std.proofs.lemmas.Option.{none-some, same_Some}
 use native.Mathlib.Omega.{arith}
 use Rattle.model.specs.declared.Instruction.{Instruction}
 use Rattle.model.specs.declared.Layout.{Layout}
+use Rattle.model.specs.declared.Limits.{Limits}
 use Rattle.model.specs.declared.Machine.{Machine}
 use Rattle.model.specs.Obligations.{Fault, Obligation, fault_unless, first_fault, each_from}
-use Rattle.model.specs.Answers.{refused, rejected}
-use Rattle.model.specs.File.{code_start, targets_at, code_in, targets_in, instruction_count, target_count, instruction_in, TargetRow, target_row_in, instruction_rules, table_rules, field, layout_in, readable_by, readable, sweepable, program_in}
+use Rattle.model.specs.Answers.{accepted, refused, rejected}
+use Rattle.model.specs.File.{code_start, targets_at, code_in, targets_in, instruction_count, target_count, instruction_in, TargetRow, target_row_in, instruction_rules, table_rules, field, layout_in, readable_by, readable, program_in}
+use Rattle.model.specs.Limits.{limit_rules, loadable_by, loadable, sweepable}
+use Rattle.model.specs.Program.{Program}
 use Rattle.model.specs.Judgement.{before_next, at_index, verified, obligations, first_broken, concluded, judgement}
 use Rattle.model.specs.Run.{Run, run, stretch, Seen, finished, runnable, unless_refused, run_on}
 use Rattle.model.specs.Promises.{RefusalsListed, RefusalKeeps}
@@ -59,7 +62,7 @@ module _ (P : ℕ → Type 0) where
     field_numbered file at tag =
         (low 1 (omega arith) (omega arith), (low 2 (omega arith) (omega arith), (low 3 (omega arith) (omega arith), (low 1 (omega arith) (omega arith), tt))))
 
-    readable_numbered : (good : ℕ → (ℕ → TargetRow) → ℕ → Bool) (file : List ℕ) → Numbered (readable_by good file)
+    pub readable_numbered : (good : ℕ → (ℕ → TargetRow) → ℕ → Bool) (file : List ℕ) → Numbered (readable_by good file)
     unfolding readable_by
     readable_numbered good file =
         append_numbered (field file 0 1) _ (field_numbered file 0 1)
@@ -71,64 +74,99 @@ module _ (P : ℕ → Type 0) where
               (target_row_in (targets_in file)),
         )))
 
--- the verifier's, 1 to 13
+    -- and 17
+    pub loadable_numbered : (good : ℕ → (ℕ → TargetRow) → ℕ → Bool) (limits : Limits) (file : List ℕ) → P 17 → Numbered (loadable_by good limits file)
+    unfolding loadable_by limit_rules
+    loadable_numbered good limits file over = append_numbered (readable_by good file) _ (readable_numbered good file) (over, tt)
+
+  -- refusals 8 to 13
+  module _ (code : (n : ℕ) → 8 ≤ n → n ≤ 13 → P n) where
+    index_numbered : P 12 → P 9 → P 10 → P 8 → P 13 → P 11 → (p : Program) (i : ℕ) → Numbered (at_index p i)
+    unfolding at_index before_next
+    index_numbered unreachable unchecked wild no_target falls_off broken p i =
+        (unreachable, (unchecked, (wild, (no_target, (falls_off, (broken, (broken, tt)))))))
+
+    pub verified_numbered : (p : Program) → Numbered (verified p)
+    unfolding verified
+    verified_numbered p =
+        each_numbered 0 _ (at_index p)
+        (index_numbered (code 12 (omega arith) (omega arith)) (code 9 (omega arith) (omega arith)) (code 10 (omega arith) (omega arith))
+        (code 8 (omega arith) (omega arith)) (code 13 (omega arith) (omega arith)) (code 11 (omega arith) (omega arith)) p)
+
+-- the verifier's, 1 to 13 and 17
 abbrev pub ForVerdict : ℕ → Type 0
-ForVerdict n = (1 ≤ n) × (n ≤ 13)
+ForVerdict n = ((1 ≤ n) × (n ≤ 13)) ⊎ (n ≡ 17)
 
-obligations_numbered : (file : List ℕ) → Numbered ForVerdict (obligations file)
-unfolding obligations verified at_index before_next
-obligations_numbered file =
-    append_numbered ForVerdict (readable file) _ (readable_numbered ForVerdict (λ n least most. omega arith) _ file)
-    (each_numbered ForVerdict 0 _ (at_index (program_in file))
-    (λ i. (omega arith, (omega arith, (omega arith, (omega arith, (omega arith, (omega arith, (omega arith, tt)))))))))
+obligations_numbered : (limits : Limits) (file : List ℕ) → Numbered ForVerdict (obligations limits file)
+unfolding obligations
+obligations_numbered limits file =
+    append_numbered ForVerdict (loadable limits file) _
+    (loadable_numbered ForVerdict (λ n least most. inl (least, omega arith)) _ limits file (inr refl))
+    (verified_numbered ForVerdict (λ n least most. inl (omega arith, most)) (program_in file))
 
--- a run's, 1 to 7, 14 and 15
+-- a run's, 1 to 7, 14, 15 and 17
 abbrev pub ForRun : ℕ → Type 0
-ForRun n = ((1 ≤ n) × (n ≤ 7)) ⊎ ((14 ≤ n) × (n ≤ 15))
+ForRun n = (((1 ≤ n) × (n ≤ 7)) ⊎ ((14 ≤ n) × (n ≤ 15))) ⊎ (n ≡ 17)
 
-runnable_numbered : (file : List ℕ) (m : Machine) (memory : List ℕ) (offset : ℕ) → Numbered ForRun (runnable file m memory offset)
+runnable_numbered : (limits : Limits) (file : List ℕ) (m : Machine) (memory : List ℕ) (offset : ℕ)
+    → Numbered ForRun (runnable limits file m memory offset)
 unfolding runnable
-runnable_numbered file m memory offset =
-    append_numbered ForRun (readable file) _ (readable_numbered ForRun (λ n least most. inl (least, most)) _ file)
-    (inr (omega arith), (inr (omega arith), tt))
+runnable_numbered limits file m memory offset =
+    append_numbered ForRun (loadable limits file) _
+    (loadable_numbered ForRun (λ n least most. inl (inl (least, most))) _ limits file (inr refl))
+    (inl (inr (omega arith)), (inl (inr (omega arith)), tt))
 
 -- what is named is one of them
 pub readable_listed : (file : List ℕ) (f : Fault) → first_fault (readable file) ≡ Some f → 1 ≤ f.number
 readable_listed file f named = first_numbered (λ n. 1 ≤ n) (readable file) f (readable_numbered (λ n. 1 ≤ n) (λ n least most. least) _ file) named
 
-pub sweepable_listed : (file : List ℕ) (f : Fault) → first_fault (sweepable file) ≡ Some f → (1 ≤ f.number) × (f.number ≤ 7)
-sweepable_listed file f named =
-    first_numbered (λ n. (1 ≤ n) × (n ≤ 7)) (sweepable file) f
-    (readable_numbered (λ n. (1 ≤ n) × (n ≤ 7)) (λ n least most. (least, most)) _ file) named
+-- before any sweep: 1 to 7 and 17
+abbrev pub ForSweeps : ℕ → Type 0
+ForSweeps n = ((1 ≤ n) × (n ≤ 7)) ⊎ (n ≡ 17)
 
-pub judged_listed : (file : List ℕ) (f : Fault) → first_broken file ≡ Some f → ForVerdict f.number
+pub sweepable_listed : (limits : Limits) (file : List ℕ) (f : Fault) → first_fault (sweepable limits file) ≡ Some f → ForSweeps f.number
+sweepable_listed limits file f named =
+    first_numbered ForSweeps (sweepable limits file) f
+    (loadable_numbered ForSweeps (λ n least most. inl (least, most)) _ limits file (inr refl)) named
+
+pub judged_listed : (limits : Limits) (file : List ℕ) (f : Fault) → first_broken limits file ≡ Some f → ForVerdict f.number
 unfolding first_broken
-judged_listed file f named = first_numbered ForVerdict (obligations file) f (obligations_numbered file) named
+judged_listed limits file f named = first_numbered ForVerdict (obligations limits file) f (obligations_numbered limits file) named
 
-pub runnable_listed : (file : List ℕ) (m : Machine) (memory : List ℕ) (offset : ℕ) (f : Fault)
-    → first_fault (runnable file m memory offset) ≡ Some f → ForRun f.number
-runnable_listed file m memory offset f named = first_numbered ForRun (runnable file m memory offset) f (runnable_numbered file m memory offset) named
+pub runnable_listed : (limits : Limits) (file : List ℕ) (m : Machine) (memory : List ℕ) (offset : ℕ) (f : Fault)
+    → first_fault (runnable limits file m memory offset) ≡ Some f → ForRun f.number
+runnable_listed limits file m memory offset f named =
+    first_numbered ForRun (runnable limits file m memory offset) f (runnable_numbered limits file m memory offset) named
 
-pub refused_judged : (file : List ℕ) (f : Fault) → judgement file ≡ refused f → first_broken file ≡ Some f
+pub refused_judged : (limits : Limits) (file : List ℕ) (f : Fault) → judgement limits file ≡ refused f → first_broken limits file ≡ Some f
 unfolding judgement
-refused_judged file f is = by_fault (first_broken file) is
+refused_judged limits file f is = by_fault (first_broken limits file) is
   where
     by_fault : (o : Option Fault) → concluded file o ≡ refused f → o ≡ Some f
     by_fault None same = absurd (let impossible : ◌≡◌ {A = ℕ} 0 1 = cc in omega arith)
     by_fault (Some g) same = cc
 
--- what a report of a refusal tells: the fault, no steps, and that nothing is changed
-record Told (os : Option Fault) (m : Machine) (memory : List ℕ) (f : Fault) (n : ℕ) (seen : Seen) : Type 0 where
-  fault : os ≡ Some f
-  steps : n ≡ 0
-  machine_kept : seen.machine ≡ m
-  memory_kept : seen.memory ≡ memory
+pub accepted_judged : (limits : Limits) (file : List ℕ) (n k : ℕ) → judgement limits file ≡ accepted n k → first_broken limits file ≡ None
+unfolding judgement
+accepted_judged limits file n k is = by_fault (first_broken limits file) is
+  where
+    by_fault : (o : Option Fault) → concluded file o ≡ accepted n k → o ≡ None
+    by_fault None same = refl
+    by_fault (Some f) same = absurd (let impossible : ◌≡◌ {A = ℕ} 0 1 = cc in omega arith)
 
-told : (file : List ℕ) (m : Machine) (memory : List ℕ) (offset budget : ℕ) (f : Fault) (n : ℕ)
-    → (run_on file m memory offset budget).report ≡ rejected f n
-    → Told (first_fault (runnable file m memory offset)) m memory f n (run_on file m memory offset budget)
+-- what a report of a refusal tells: the fault, no steps, and that nothing is changed
+pub record Told (os : Option Fault) (m : Machine) (memory : List ℕ) (f : Fault) (n : ℕ) (seen : Seen) : Type 0 where
+  pub fault : os ≡ Some f
+  pub steps : n ≡ 0
+  pub machine_kept : seen.machine ≡ m
+  pub memory_kept : seen.memory ≡ memory
+
+pub told : (limits : Limits) (file : List ℕ) (m : Machine) (memory : List ℕ) (offset budget : ℕ) (f : Fault) (n : ℕ)
+    → (run_on limits file m memory offset budget).report ≡ rejected f n
+    → Told (first_fault (runnable limits file m memory offset)) m memory f n (run_on limits file m memory offset budget)
 unfolding run_on
-told file m memory offset budget f n is = by_fault (run (program_in file) budget m (stretch offset size memory)) (first_fault (runnable file m memory offset)) is
+told limits file m memory offset budget f n is =
+    by_fault (run (program_in file) budget m (stretch offset size memory)) (first_fault (runnable limits file m memory offset)) is
   where
     size : ℕ
     size = (layout_in file).size
@@ -143,12 +181,13 @@ told file m memory offset budget f n is = by_fault (run (program_in file) budget
 
 pub refusals_listed : RefusalsListed
 refusals_listed = record {
-  verdict = λ file f is. judged_listed file f (refused_judged file f is);
-  run = λ file m memory offset budget f n is. runnable_listed file m memory offset f (told file m memory offset budget f n is).fault;
+  verdict = λ limits file f is. judged_listed limits file f (refused_judged limits file f is);
+  run = λ limits file m memory offset budget f n is.
+      runnable_listed limits file m memory offset f (told limits file m memory offset budget f n is).fault;
 }
 
 pub refusal_keeps : RefusalKeeps
 refusal_keeps = record {
-  run = λ file m memory offset budget f n is.
-      let t = told file m memory offset budget f n is in (t.steps, t.machine_kept, t.memory_kept);
+  run = λ limits file m memory offset budget f n is.
+      let t = told limits file m memory offset budget f n is in (t.steps, t.machine_kept, t.memory_kept);
 }

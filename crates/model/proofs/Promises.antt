@@ -12,10 +12,11 @@ use lib.Dec.{ltb}
 use lib.ListN.{length}
 use Rattle.model.specs.declared.Ending.{Ending}
 use Rattle.model.specs.declared.Layout.{Layout}
+use Rattle.model.specs.declared.Limits.{Limits}
 use Rattle.model.specs.declared.Machine.{Machine}
 use Rattle.model.specs.Program.{Program, is_target, is_indirect}
 use Rattle.model.specs.Step.{Effect, goes_on, goes_to, goes_via, ends, in_region, in_zones, Step, settle, step_of, step}
-use Rattle.model.specs.File.{most_instructions, most_targets, program_in}
+use Rattle.model.specs.File.{most_instructions, most_targets, code_start, program_in}
 use Rattle.model.specs.Rules.{SomeOf}
 use Rattle.model.specs.Run.{Seen, RunPost, run_on}
 use Rattle.model.specs.Walk.{Call, host_writes, Called, done, call}
@@ -31,6 +32,7 @@ use Rattle.model.proofs.Accepted.{accepted_iff, runnable_iff, refusal_first, run
 use Rattle.model.proofs.Targets.{code_length, module_placed, readable_steady}
 use Rattle.model.proofs.JoiningCalls.{joining_calls, runs_join}
 use Rattle.model.proofs.LongFiles.{long_file}
+use Rattle.model.proofs.Stretches.{value_length, code_listed, code_whole, file_length}
 use Rattle.model.proofs.Rows.{agrees, every, all_agree}
 
 pub accepted_exactly : AcceptedIff
@@ -48,15 +50,20 @@ units_most unit most len (n, least, few, is) = rw is (mul-le-mul_left unit few)
 
 pub long_files : LongFiles
 long_files = record {
-  longest = λ file passes.
-      let kept = ((accepted_iff file).0 passes).file_rules in
+  longest = λ limits file passes.
+      let kept = ((accepted_iff limits file).0 passes).file_rules in
       omega (
         arith,
         kept.no_tail,
         units_most 8 most_instructions _ kept.code_field.listed,
         units_most 68 most_targets _ kept.targets_field.listed,
       );
-  front = λ file m long inside. long_file file m long inside;
+  held = λ limits file passes.
+      let kept = (accepted_iff limits file).0 passes in
+      let code = code_whole file kept.file_rules in
+      let as_long = value_length file code_start 2 code_listed kept.file_rules.code_field in
+      omega (arith, file_length file kept.file_rules, code.3, as_long, kept.held.instructions, kept.held.targets);
+  front = λ limits file m long inside. long_file file m long inside limits;
 }
 
 -- a step that ends the run leaves all as it was
@@ -131,12 +138,13 @@ zones_agree = record {
 }
 
 -- each call answers what the model says
-answer_all : (file : List ℕ) (m : Machine) (memory : List ℕ) (calls : List Call) → (seen : List Seen) × Called file m memory calls seen
-answer_all file m memory [] = ([], done)
-answer_all file m memory (c ∷ cs) =
-    let s : Seen = run_on file m (host_writes (program_in file) memory c) c.offset c.budget in
-    let rest = answer_all file s.machine s.memory cs in
-    let met : RunPost file m (host_writes (program_in file) memory c) c.offset c.budget s = record { is = refl } in
+answer_all : (limits : Limits) (file : List ℕ) (m : Machine) (memory : List ℕ) (calls : List Call)
+    → (seen : List Seen) × Called limits file m memory calls seen
+answer_all limits file m memory [] = ([], done)
+answer_all limits file m memory (c ∷ cs) =
+    let s : Seen = run_on limits file m (host_writes (program_in file) memory c) c.offset c.budget in
+    let rest = answer_all limits file s.machine s.memory cs in
+    let met : RunPost limits file m (host_writes (program_in file) memory c) c.offset c.budget s = record { is = refl } in
     (s ∷ rest.0, call met rest.1)
 
 pub calls_answer : CallsAnswer

@@ -4,7 +4,7 @@ use Rattle.std.specs.Prelude.{ℕ, Result, Ok, Err}
 use Rattle.model.specs.declared.Ending.{Ending}
 use Rattle.model.specs.declared.Ending.TheVariants.{Halted, Trapped, Denied, Violated, OutOfBudget}
 use Rattle.model.specs.declared.Rule.{Rule}
-use Rattle.model.specs.declared.Rule.TheVariants.{Truncated, WrongTag, BadLength, TrailingBytes, BadLayout, BadInstruction, BadTarget, NoTarget, UncheckedJump, WildAccess, BrokenClaim, Unreachable, FallsOff, BadPc, NoRoom, NoSpace}
+use Rattle.model.specs.declared.Rule.TheVariants.{Truncated, WrongTag, BadLength, TrailingBytes, BadLayout, BadInstruction, BadTarget, NoTarget, UncheckedJump, WildAccess, BrokenClaim, Unreachable, FallsOff, BadPc, NoRoom, NoSpace, OverPlate}
 use Rattle.model.specs.declared.Refusal.{Refusal}
 use Rattle.model.specs.declared.Contents.{Contents}
 use Rattle.model.specs.declared.Answer.{Answer}
@@ -28,6 +28,7 @@ rule_number FallsOff = 13  -- runs off
 rule_number BadPc = 14  -- bad place
 rule_number NoRoom = 15  -- no ground
 rule_number NoSpace = 16  -- no space (document 02, ticket 5)
+rule_number OverPlate = 17  -- over plate (ticket 8)
 
 unfoldable pub fault_of : Refusal → Fault
 fault_of r = fault (rule_number r.rule) r.place

@@ -1,6 +1,7 @@
 -- Document 02, ticket 3, "Work out the claims for us": sweep after sweep over the code, and what is answered of a file.
 -- Assumes nothing.
 use Rattle.std.specs.Prelude.{ℕ, zero, suc, ◌+◌, ◌*◌, min, max, Bool, true, false, cond, not, ◌&&◌, ◌||◌, List, [], ◌∷◌, ◌++◌, map, leb, ltb, eqb, length, get_or, replicate, take, drop, option_map, unwrap_or, Option, None, Some}
+use Rattle.model.specs.declared.Limits.{Limits}
 use Rattle.model.specs.declared.Range.{Range}
 use Rattle.model.specs.declared.Ranges.{Ranges}
 use Rattle.model.specs.declared.Target.{Target}
@@ -12,7 +13,8 @@ use Rattle.model.specs.Ranges.{range, low, high, anything, range_of, unknown, re
 use Rattle.model.specs.Program.{Program}
 use Rattle.model.specs.Instructions.{after_next, after_taken}
 use Rattle.model.specs.Step.{shape_at}
-use Rattle.model.specs.File.{tabulate, value_at, targets_at, target_start, sweepable, program_in}
+use Rattle.model.specs.File.{tabulate, value_at, targets_at, target_start, program_in}
+use Rattle.model.specs.Limits.{sweepable}
 use Rattle.model.specs.Judgement.{traits_at, starting_ranges, judgement}
 
 -- ---- the targets (doors), while their claims are worked out
@@ -213,9 +215,9 @@ abbrev pub judged_as : List ℕ → List ℕ → Judgement → Answered
 judged_as file after (accepted n k) = record { judgement = accepted n k; bytes = after }
 judged_as file after (refused f) = record { judgement = refused f; bytes = file }
 
-abbrev pub after_sweeping : List ℕ → Option Fault → Answered
-after_sweeping file None = judged_as file (finished_file file) (judgement (finished_file file))
-after_sweeping file (Some f) = record { judgement = refused f; bytes = file }
+abbrev pub after_sweeping : Limits → List ℕ → Option Fault → Answered
+after_sweeping limits file None = judged_as file (finished_file file) (judgement limits (finished_file file))
+after_sweeping limits file (Some f) = record { judgement = refused f; bytes = file }
 
-unfoldable pub work_out : List ℕ → Answered
-work_out file = after_sweeping file (first_fault (sweepable file))
+unfoldable pub work_out : Limits → List ℕ → Answered
+work_out limits file = after_sweeping limits file (first_fault (sweepable limits file))

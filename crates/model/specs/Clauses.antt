@@ -3,6 +3,7 @@
 use Rattle.std.specs.Prelude.{ℕ, ◌+◌, ◌≤◌, ◌<◌, ◌≡◌, true, length, get_or, Some}
 use mathlib.Core.List.{List, [], ◌∷◌, ◌++◌, Memᴰ}
 use Rattle.model.specs.declared.Ending.TheVariants.{Violated}
+use Rattle.model.specs.declared.Limits.{Limits}
 use Rattle.model.specs.declared.Machine.{Machine}
 use Rattle.model.specs.declared.Target.{Target}
 use Rattle.model.specs.Answers.{ended, steps_in}
@@ -68,7 +69,7 @@ pub record TwoSafe (p : Program) (m : Machine) (start : List ℕ) (c d : Call) (
   pub lengths : (length s.memory ≡ length start) × (length t.memory ≡ length start)
 
 pub record TwoCalls : Type 0 where
-  pub clauses : (file : List ℕ) (m : Machine) (start : List ℕ) (c d : Call) (s t : Seen)
-      → Fed file m (c ∷ d ∷ [])
-      → Called file m start (c ∷ d ∷ []) (s ∷ t ∷ [])
+  pub clauses : (limits : Limits) (file : List ℕ) (m : Machine) (start : List ℕ) (c d : Call) (s t : Seen)
+      → Fed limits file m (c ∷ d ∷ [])
+      → Called limits file m start (c ∷ d ∷ []) (s ∷ t ∷ [])
       → TwoSafe (program_in file) m start c d s t (walk_first (program_in file) m start c) (walk_second (program_in file) m start c d)

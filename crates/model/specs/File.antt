@@ -319,10 +319,6 @@ readable_by good file =
 abbrev pub readable : List ℕ → List Obligation
 readable = readable_by is_good_target
 
--- document 02, ticket 3: "before sweeping 1 to 6 apply, and 7 except for inner claims". (An open door's claim is in order anyway.)
-abbrev pub sweepable : List ℕ → List Obligation
-sweepable = readable_by is_placed_target
-
 -- the module of a layout, the code's bytes and the targets' bytes
 unfoldable pub program_of : Layout → List ℕ → List ℕ → Program
 program_of l code targets = record {

@@ -1,7 +1,8 @@
--- What the verifier demands: rules 8 to 13 at each instruction, and the whole judgement of a file. Assumes nothing.
+-- What the verifier demands: rules 8 to 13 at each instruction, and the whole judgement of a file by a device. Assumes nothing.
 use Rattle.std.specs.Prelude.{ℕ, zero, suc, ◌+◌, ◌-◌, Bool, true, not, ◌&&◌, ◌||◌, List, [], ◌∷◌, ◌++◌, eqb, ℤ, pos, ◌+ℤ◌, length, Option, None, Some}
 use Rattle.std.specs.Int.Signed.{le_z}
 use Rattle.model.specs.declared.Layout.{Layout}
+use Rattle.model.specs.declared.Limits.{Limits}
 use Rattle.model.specs.declared.Range.{Range}
 use Rattle.model.specs.declared.Ranges.{Ranges}
 use Rattle.model.specs.declared.Target.{Target}
@@ -13,7 +14,8 @@ use Rattle.model.specs.Ranges.{range_of, unknown, region_range, lies_within}
 use Rattle.model.specs.Program.{Program, target_at, is_target}
 use Rattle.model.specs.Instructions.{bytes_of, Traits, traits, after_next, after_taken}
 use Rattle.model.specs.Step.{shape_at}
-use Rattle.model.specs.File.{code_in, targets_in, instruction_count, target_count, readable, program_in}
+use Rattle.model.specs.File.{code_in, targets_in, instruction_count, target_count, program_in}
+use Rattle.model.specs.Limits.{loadable}
 
 abbrev pub traits_at : Program → ℕ → Traits
 traits_at p i = traits (shape_at p i)
@@ -101,17 +103,17 @@ at_index p i = before_next p i ++ (owes 11 i (next_kept p i) ∷ [])
 unfoldable pub verified : Program → List Obligation
 verified p = each (length p.code) (at_index p)
 
--- "The verifier goes on with 8 to 13."
-unfoldable pub obligations : List ℕ → List Obligation
-obligations file = readable file ++ verified (program_in file)
+-- "The verifier goes on with 8 to 13.", on a device with such limits
+unfoldable pub obligations : Limits → List ℕ → List Obligation
+obligations limits file = loadable limits file ++ verified (program_in file)
 
-unfoldable pub first_broken : List ℕ → Option Fault
-first_broken file = first_fault (obligations file)
+unfoldable pub first_broken : Limits → List ℕ → Option Fault
+first_broken limits file = first_fault (obligations limits file)
 
 -- the verifier's answer
 abbrev pub concluded : List ℕ → Option Fault → Judgement
 concluded file None = accepted (instruction_count (code_in file)) (target_count (targets_in file))
 concluded file (Some f) = refused f
 
-unfoldable pub judgement : List ℕ → Judgement
-judgement file = concluded file (first_broken file)
+unfoldable pub judgement : Limits → List ℕ → Judgement
+judgement limits file = concluded file (first_broken limits file)

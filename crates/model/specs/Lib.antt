@@ -5,7 +5,7 @@
 -- Reading order, each file after those that it stands on: Words (bytes, words, wrapping, the signed reading); Ranges (rule W, cuts,
 -- rule B); Program; Instructions (the table, both columns, one row an opcode; rule N); Step (access, places, the listed step); File
 -- (fields, layout, instructions, targets, refusals 1 to 7); Obligations (what is judged, and "the first rule broken and where");
--- Judgement (rules 8 to 13 and the verdict); Lookup (how a target is found: document 02, ticket 7); Claims (claims that are worked
+-- Limits (what a device holds, and refusal 17: document 02, ticket 8); Judgement (rules 8 to 13 and the verdict); Lookup (how a target is found: document 02, ticket 7); Claims (claims that are worked
 -- out: ticket 3); Writer (files that are written: ticket 5); Rules (every rule again, stated by itself, with no order and no test in
 -- it); Answers (numbers of refusals and endings); Run (the run, and 14 and 15); Counts (the width of budgets and counts: ticket 6);
 -- Walk; Safety (demand 3); Accuracy (the ranges are right); Clauses (demand 3 for two calls, clause by clause); Outcomes, Walks,
@@ -37,6 +37,7 @@ pub mod Program
 pub mod Instructions
 pub mod Step
 pub mod File
+pub mod Limits
 pub mod Judgement
 pub mod Lookup
 pub mod Claims

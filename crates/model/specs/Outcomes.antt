@@ -6,6 +6,7 @@ use Rattle.model.specs.declared.Ending.{Ending}
 use Rattle.model.specs.declared.Instruction.{Instruction}
 use Rattle.model.specs.declared.Instruction.TheVariants.{Halt, Set, Addi, Guard, Sar, Load, Jump, Branch}
 use Rattle.model.specs.declared.Layout.{Layout}
+use Rattle.model.specs.declared.Limits.{Limits}
 use Rattle.model.specs.declared.LoadWidth.{LoadWidth}
 use Rattle.model.specs.declared.LoadWidth.TheVariants.{Unsigned, SignedOne, SignedTwo}
 use Rattle.model.specs.declared.Machine.{Machine}
@@ -23,6 +24,7 @@ use Rattle.model.specs.Program.{Program, target_at}
 use Rattle.model.specs.Instructions.{bytes_of, carried, guarded, Access, shape, traits, rule_n, after_next, after_taken}
 use Rattle.model.specs.Step.{in_region, in_zones, accessing, effect, addresses_from, settle, step_of, step}
 use Rattle.model.specs.File.{is_listed, field, rows, decode, tabulate, field_value, readable_by, program_of}
+use Rattle.model.specs.Limits.{box_limits, plate_limits, limit_rules, loadable_by}
 use Rattle.model.specs.Judgement.{known_at, is_reachable, is_checked, is_contained, access_contained, jumps_to_target, stays_inside, taken_kept, next_kept, before_next, at_index, verified, obligations, first_broken, judgement}
 use Rattle.model.specs.Run.{run, steps}
 
@@ -132,8 +134,8 @@ verdict_told (accepted n k) = 0 ∷ n ∷ k ∷ []
 verdict_told (refused f) = f.number ∷ f.place ∷ []
 
 unfoldable pub verdict_on : List ℕ → List ℕ
-unfolding judgement first_broken obligations readable_by verified program_of field_value is_listed field tabulate each_from first_fault read_bytes
-verdict_on file = verdict_told (judgement file)
+unfolding judgement first_broken obligations loadable_by readable_by verified program_of field_value is_listed field tabulate each_from first_fault read_bytes
+verdict_on file = verdict_told (judgement box_limits file)
 
 abbrev pub below : Instruction
 below = Branch 0 1 Below 0
@@ -219,8 +221,13 @@ unfolding decode rows shape
 widths_below zero op = []
 widths_below (suc w) op = widths_below w op ++ bytes_told w (decode op 0 1 w 0)
 
+-- ticket 8: of so many instructions and targets
+unfoldable pub over : Limits → ℕ → ℕ → List ℕ
+unfolding limit_rules first_fault
+over limits n k = fault_told (first_fault (limit_rules limits n k))
+
 unfoldable pub requests : List Row
-unfolding stepped_in next_in judged carried_of widths_below
+unfolding stepped_in next_in judged carried_of widths_below over
 requests =
     row 1 stereo (0 ∷ [])
     ∷ row 1 only_right (0 ∷ [])
@@ -236,6 +243,10 @@ requests =
     ∷ row 2 (next (load SignedTwo) anything anything) (0 ∷ top ∷ DB ∷ (DL - 1) ∷ [])
     ∷ row 2 (and_above SignedOne (pos 256)) (0 ∷ 10 ∷ 1 ∷ [])
     ∷ row 2 (and_above SignedTwo (pos 255)) (0 ∷ 10 ∷ 1 ∷ [])
+    ∷ row 8 (over plate_limits 512 32) (0 ∷ [])
+    ∷ row 8 (over plate_limits 513 32 ++ over plate_limits 512 33) (17 ∷ 0 ∷ 17 ∷ 0 ∷ [])
+    ∷ row 8 (over box_limits 513 32 ++ over box_limits 512 33) (0 ∷ 0 ∷ [])
+    ∷ row 8 (over box_limits 4096 256) (0 ∷ [])
     ∷ []
 
 -- the outcomes' numbers, in order

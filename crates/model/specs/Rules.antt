@@ -1,8 +1,10 @@
--- Every rule of document 01, stated rule by rule: what a module keeps where `first_broken` names no fault, and what a run asks for.
+-- Every rule of document 01, and 17 of document 02, stated rule by rule: what a module keeps where `first_broken` names no fault, and
+-- what a run asks for.
 -- Assumes nothing.
 use Rattle.std.specs.Prelude.{ℕ, suc, ◌+◌, ◌-◌, ◌*◌, ◌^◌, ◌≤◌, ◌<◌, ◌≡◌, true, false, List, ℤ, pos, ◌+ℤ◌, ◌≤ℤ◌, length, Option, Some}
 use Rattle.model.specs.declared.Instruction.{Instruction}
 use Rattle.model.specs.declared.Layout.{Layout}
+use Rattle.model.specs.declared.Limits.{Limits}
 use Rattle.model.specs.declared.Machine.{Machine}
 use Rattle.model.specs.declared.Range.{Range}
 use Rattle.model.specs.declared.Ranges.{Ranges}
@@ -131,13 +133,23 @@ FileKept = FileHolds TargetKept
 abbrev pub FilePlaced : List ℕ → Type 0
 FilePlaced = FileHolds TargetPlaced
 
--- every rule, and so over every edge too
-pub record KeepsEveryRule (file : List ℕ) : Type 0 where
+-- 17: neither limit is passed, by n instructions or k targets
+pub record WithinLimits (limits : Limits) (n k : ℕ) : Type 0 where
+  pub instructions : n ≤ limits.instructions
+  pub targets : k ≤ limits.targets
+
+abbrev pub HeldBy : Limits → List ℕ → Type 0
+HeldBy limits file = WithinLimits limits (instruction_count (code_in file)) (target_count (targets_in file))
+
+-- every rule, and so over every edge too, and the device's limits
+pub record KeepsEveryRule (limits : Limits) (file : List ℕ) : Type 0 where
   pub file_rules : FileKept file
+  pub held : HeldBy limits file
   pub code_rules : (i : ℕ) → i < length (program_in file).code → IndexKept (program_in file) i
 
--- 14 and 15, beside 1 to 7: what a run asks for
-pub record Runnable (file : List ℕ) (m : Machine) (memory : List ℕ) (offset : ℕ) : Type 0 where
+-- 14 and 15, beside 1 to 7 and 17: what a run asks for
+pub record Runnable (limits : Limits) (file : List ℕ) (m : Machine) (memory : List ℕ) (offset : ℕ) : Type 0 where
   pub file_rules : FileKept file
+  pub held : HeldBy limits file
   pub pc_inside : m.pc < instruction_count (code_in file)
   pub fits : offset + (layout_in file).size ≤ length memory

@@ -2,12 +2,14 @@
 use Rattle.std.specs.Prelude.{ℕ, zero, suc, ◌+◌, ◌≡◌, List, [], ◌∷◌, ◌++◌, leb, ltb, length, take, drop, Option, None, Some}
 use Rattle.model.specs.declared.Ending.{Ending}
 use Rattle.model.specs.declared.Ending.TheVariants.{OutOfBudget}
+use Rattle.model.specs.declared.Limits.{Limits}
 use Rattle.model.specs.declared.Machine.{Machine}
 use Rattle.model.specs.Obligations.{Fault, Obligation, owes, first_fault}
 use Rattle.model.specs.Answers.{Report, ended, rejected}
 use Rattle.model.specs.Program.{Program}
 use Rattle.model.specs.Step.{Step, step}
-use Rattle.model.specs.File.{code_in, instruction_count, layout_in, readable, program_in}
+use Rattle.model.specs.File.{code_in, instruction_count, layout_in, program_in}
+use Rattle.model.specs.Limits.{loadable}
 
 -- a run: how it ended, the machine and the region's bytes after it, and its steps
 pub record Run : Type 0 where
@@ -59,9 +61,9 @@ finished offset size memory r =
     record { report = ended r.ending (steps r); machine = r.machine; memory = splice offset size memory r.region }
 
 -- "The verifier goes on with 8 to 13, the run with 14 then 15.", in place of the verifier's rules
-unfoldable pub runnable : List ℕ → Machine → List ℕ → ℕ → List Obligation
-runnable file m memory offset =
-    readable file
+unfoldable pub runnable : Limits → List ℕ → Machine → List ℕ → ℕ → List Obligation
+runnable limits file m memory offset =
+    loadable limits file
     ++ (owes 14 0 (ltb m.pc (instruction_count (code_in file)))
     ∷ owes 15 0 (leb (offset + (layout_in file).size) (length memory))
     ∷ [])
@@ -70,15 +72,15 @@ abbrev pub unless_refused : Machine → List ℕ → Seen → Option Fault → S
 unless_refused m memory done None = done
 unless_refused m memory done (Some f) = unchanged m memory f
 
-unfoldable pub run_on : List ℕ → Machine → List ℕ → ℕ → ℕ → Seen
-run_on file m memory offset budget =
+unfoldable pub run_on : Limits → List ℕ → Machine → List ℕ → ℕ → ℕ → Seen
+run_on limits file m memory offset budget =
     let size = (layout_in file).size in
     let done = finished offset size memory (run (program_in file) budget m (stretch offset size memory)) in
-    unless_refused m memory done (first_fault (runnable file m memory offset))
+    unless_refused m memory done (first_fault (runnable limits file m memory offset))
 
--- What a call to run promises, whatever it is given: the answer, the machine and every byte of memory after it.
-pub record RunPost (file : List ℕ) (m : Machine) (memory : List ℕ) (offset budget : ℕ) (seen : Seen) : Type 0 where
-  pub is : seen ≡ run_on file m memory offset budget
+-- What a call to run promises on a device, whatever it is given: the answer, the machine and every byte of memory after it.
+pub record RunPost (limits : Limits) (file : List ℕ) (m : Machine) (memory : List ℕ) (offset budget : ℕ) (seen : Seen) : Type 0 where
+  pub is : seen ≡ run_on limits file m memory offset budget
 
 -- "the two counts add up to its count": what is seen of a call, with the steps of a call before it added
 abbrev pub add_steps : ℕ → Report → Report

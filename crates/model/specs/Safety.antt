@@ -3,6 +3,7 @@ use Rattle.std.specs.Prelude.{ℕ, ◌+◌, ◌≤◌, ◌<◌, ◌≡◌, true,
 use mathlib.Core.List.{List, Memᴰ}
 use Rattle.model.specs.declared.Ending.TheVariants.{Violated}
 use Rattle.model.specs.declared.Layout.{Layout}
+use Rattle.model.specs.declared.Limits.{Limits}
 use Rattle.model.specs.declared.Machine.{Machine}
 use Rattle.model.specs.declared.Target.{Target}
 use Rattle.model.specs.Words.{modulus}
@@ -29,9 +30,9 @@ pub record Bytes (n : ℕ) (bs : List ℕ) : Type 0 where
   pub small : (i : ℕ) → get_or bs i 0 < 256
 
 -- "It is fed an accepted module, a record at an open door with any registers, a lent memory and a list of items, perhaps none."
-pub record Fed (file : List ℕ) (m : Machine) (calls : List Call) : Type 0 where
+pub record Fed (limits : Limits) (file : List ℕ) (m : Machine) (calls : List Call) : Type 0 where
   pub bytes : (i : ℕ) → byte_at file i < 256
-  pub accepted : first_broken file ≡ None
+  pub accepted : first_broken limits file ≡ None
   pub at_indirect : is_indirect (program_in file).targets m.pc ≡ true
   pub registers : EightWords m.registers
   pub written : (c : Call) → Memᴰ c calls → Bytes (program_in file).layout.size c.bytes
@@ -99,9 +100,10 @@ pub record Safe (p : Program) (m : Machine) (start : List ℕ) (calls : List Cal
   pub at_start : ClaimKept p m
   pub each_call : (w : Walked) → Memᴰ w (walk p m start calls) → CallSafe p start calls w
 
--- Demand 3. Proved in the crate safety.
+-- Demand 3, on any device. Document 02, ticket 8: "The rules and the safety of runs are stated once with the limits open." Proved in the
+-- crate safety.
 pub record Safety : Type 0 where
-  pub safe : (file : List ℕ) (m : Machine) (memory : List ℕ) (calls : List Call) (seen : List Seen)
-      → Fed file m calls
-      → Called file m memory calls seen
+  pub safe : (limits : Limits) (file : List ℕ) (m : Machine) (memory : List ℕ) (calls : List Call) (seen : List Seen)
+      → Fed limits file m calls
+      → Called limits file m memory calls seen
       → Safe (program_in file) m memory calls seen

@@ -1,5 +1,6 @@
 -- The walk: what a list of calls of an accepted module comes to, step by step. Assumes nothing.
 use Rattle.std.specs.Prelude.{ℕ, ◌+◌, cond, List, [], ◌∷◌, ◌++◌, leb, length}
+use Rattle.model.specs.declared.Limits.{Limits}
 use Rattle.model.specs.declared.Machine.{Machine}
 use Rattle.model.specs.Obligations.{fault}
 use Rattle.model.specs.Answers.{steps_in}
@@ -69,9 +70,9 @@ total_steps (s ∷ ss) = steps_in s.report + total_steps ss
 
 -- "The list's runs are called in turn, all of that module, on one record and one memory .. and nobody writes either meanwhile
 -- but the host": what the calls answered and left, being anything that the promise of run allows
-pub data Called (file : List ℕ) : Machine → List ℕ → List Call → List Seen → Type 0 where
-  done : {m : Machine} {memory : List ℕ} → Called file m memory [] []
+pub data Called (limits : Limits) (file : List ℕ) : Machine → List ℕ → List Call → List Seen → Type 0 where
+  done : {m : Machine} {memory : List ℕ} → Called limits file m memory [] []
   call : {m : Machine} {memory : List ℕ} {c : Call} {cs : List Call} {s : Seen} {ss : List Seen}
-      → RunPost file m (host_writes (program_in file) memory c) c.offset c.budget s
-      → Called file s.machine s.memory cs ss
-      → Called file m memory (c ∷ cs) (s ∷ ss)
+      → RunPost limits file m (host_writes (program_in file) memory c) c.offset c.budget s
+      → Called limits file s.machine s.memory cs ss
+      → Called limits file m memory (c ∷ cs) (s ∷ ss)

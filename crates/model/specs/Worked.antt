@@ -1,9 +1,10 @@
--- Document 02, ticket 3: small modules with their claims worked out, and two files. In every row the definitions give what is expected:
--- `KnownRequests` in Promises. Assumes nothing.
+-- Document 02, ticket 3: small modules with their claims worked out, and two files; and ticket 8: files on devices with small limits. In
+-- every row the definitions give what is expected: `KnownRequests` in Promises. Assumes nothing.
 use Rattle.std.specs.Prelude.{ℕ, false, List, [], ◌∷◌, ◌++◌, pos, set, replicate}
 use Rattle.model.specs.declared.Instruction.{Instruction}
 use Rattle.model.specs.declared.Instruction.TheVariants.{Halt, Set, Addi, Andi, Guard, Load, Jump, Branch}
 use Rattle.model.specs.declared.Layout.{Layout}
+use Rattle.model.specs.declared.Limits.{Limits}
 use Rattle.model.specs.declared.LoadWidth.TheVariants.{Unsigned}
 use Rattle.model.specs.declared.Target.{Target}
 use Rattle.model.specs.declared.Test.TheVariants.{Equal, Below}
@@ -15,6 +16,7 @@ use Rattle.model.specs.Ranges.{low, high, rule_w, guard_range, cut, between, cut
 use Rattle.model.specs.Program.{Program, target_at}
 use Rattle.model.specs.Instructions.{shape, rule_n, after_next, after_taken}
 use Rattle.model.specs.File.{is_listed, field, is_layout, rows, decode, instruction_in, tabulate, claim_in, target_in, is_placed_target, is_good_target, field_value, readable_by, program_of}
+use Rattle.model.specs.Limits.{box_limits, limit_rules, loadable_by}
 use Rattle.model.specs.Judgement.{known_at, is_reachable, is_checked, is_contained, access_contained, jumps_to_target, stays_inside, taken_kept, next_kept, before_next, at_index, verified, obligations, first_broken, judgement}
 use Rattle.model.specs.Claims.{entry_at, widened, grow, reach_at, arrive, visit, sweep, counted, given, sweeping, worked_out, with_claims, write_ranges, write_claims, claimed, finished_file, work_out}
 use Rattle.model.specs.Outcomes.{Row, row, fault_told, verdict_told, entry}
@@ -81,17 +83,29 @@ two_bad =
     ++ (field_of 2 (instruction 0 0 0 0 0 ++ (instruction 0 0 0 0 0 ++ instruction 0 0 0 0 0))
     ++ field_of 3 (target 0 indirect anything ++ (target 1 direct (from_to 1 0) ++ set (target 2 direct anything) 3 1)))
 
--- the verifier's verdict on a file as it came, what is answered of it here, and the bytes afterwards
-unfoldable pub answered : List ℕ → List ℕ
+-- a file whose second instruction nothing leads to, and devices
+abbrev pub two_halts : List ℕ
+two_halts =
+    field_of 1 (word 0x2000_0000 ++ (word 256 ++ word 0))
+    ++ (field_of 2 (instruction 0 0 0 0 0 ++ instruction 0 0 0 0 0) ++ field_of 3 (target 0 indirect anything))
+
+abbrev pub holding_only : ℕ → ℕ → Limits
+holding_only n k = record { instructions = n; targets = k }
+
+-- a device's verdict on a file as it came, what is answered of it here, and the bytes afterwards
+unfoldable pub answered_on : Limits → List ℕ → List ℕ
 unfolding work_out finished_file claimed write_claims write_ranges write_bytes worked_out with_claims sweeping given counted sweep visit arrive reach_at
-    grow widened entry_at judgement first_broken obligations readable_by field field_value is_listed is_layout instruction_in decode rows is_placed_target
+    grow widened entry_at judgement first_broken obligations loadable_by limit_rules readable_by field field_value is_listed is_layout instruction_in decode rows is_placed_target
     is_good_target claim_in target_in program_of tabulate read_bytes signed all_below any_below each_from first_fault verified at_index before_next is_reachable
     is_checked access_contained is_contained jumps_to_target stays_inside taken_kept next_kept lies_within known_at target_at shape after_next after_taken rule_n
     rule_w guard_range cut between low_bytes loop_with two_bad
-answered file = let a = work_out file in verdict_told (judgement file) ++ (verdict_told a.judgement ++ a.bytes)
+answered_on limits file = let a = work_out limits file in verdict_told (judgement limits file) ++ (verdict_told a.judgement ++ a.bytes)
+
+abbrev pub answered : List ℕ → List ℕ
+answered = answered_on box_limits
 
 unfoldable pub table : List Row
-unfolding told answered
+unfolding told answered_on
 table =
     row 3 (told 4 loop_code (direct_at 1 ∷ [])) (2 ∷ 0 ∷ 0 ∷ top ∷ 0x2000_0000 ∷ 0x2000_1000 ∷ [])
     ∷ row 3 (told 3 loop_code (direct_at 1 ∷ [])) (2 ∷ 10 ∷ 1 ∷ 0 ∷ top ∷ 0x2000_0000 ∷ 0x2000_1000 ∷ [])
@@ -105,4 +119,9 @@ table =
     ∷ row 3 (answered (loop_file 4)) (7 ∷ 1 ∷ 0 ∷ 4 ∷ 2 ∷ loop_with 4 0x2000_1000)
     ∷ row 3 (answered (loop_file 3)) (7 ∷ 1 ∷ 10 ∷ 1 ∷ loop_file 3)
     ∷ row 3 (answered two_bad) (7 ∷ 1 ∷ 7 ∷ 2 ∷ two_bad)
+    ∷ row 8 (answered_on (holding_only 4 2) (loop_with 4 0x2000_1000)) (0 ∷ 4 ∷ 2 ∷ 0 ∷ 4 ∷ 2 ∷ loop_with 4 0x2000_1000)
+    ∷ row 8 (answered_on (holding_only 4 1) (loop_with 4 0x2000_1000)) (17 ∷ 0 ∷ 17 ∷ 0 ∷ loop_with 4 0x2000_1000)
+    ∷ row 8 (answered_on (holding_only 2 1) two_halts) (12 ∷ 1 ∷ 12 ∷ 1 ∷ two_halts)
+    ∷ row 8 (answered_on (holding_only 1 1) two_halts) (17 ∷ 0 ∷ 17 ∷ 0 ∷ two_halts)
+    ∷ row 8 (answered_on (holding_only 1 1) two_bad) (7 ∷ 1 ∷ 7 ∷ 2 ∷ two_bad)
     ∷ []

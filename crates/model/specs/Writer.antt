@@ -5,6 +5,7 @@ use mathlib.Core.List.{List, [], ◌∷◌, ◌++◌, map, flat_map}
 use Rattle.model.specs.declared.Instruction.{Instruction}
 use Rattle.model.specs.declared.Instruction.TheVariants.{Halt, Set, Copy, Add, Addi, Sub, Andi, Guard, Shr, Sar, Load, Store, Jump, Branch, Check, Jumpr}
 use Rattle.model.specs.declared.Layout.{Layout}
+use Rattle.model.specs.declared.Limits.{Limits}
 use Rattle.model.specs.declared.LoadWidth.{LoadWidth}
 use Rattle.model.specs.declared.LoadWidth.TheVariants.{Unsigned, SignedOne, SignedTwo}
 use Rattle.model.specs.declared.Ranges.{Ranges}
@@ -18,6 +19,7 @@ use Rattle.model.specs.Ranges.{low, high}
 use Rattle.model.specs.Program.{Program}
 use Rattle.model.specs.Instructions.{bytes_of}
 use Rattle.model.specs.File.{value_at, most_instructions, most_targets, code_start, code_in, targets_in, instruction_count, target_count, layout_in, InstructionRow, decoded, row_in, tabulate, TargetRow, target_row_in, is_good_target, table_rules}
+use Rattle.model.specs.Limits.{limit_rules}
 use Rattle.model.specs.Judgement.{verified}
 
 -- ---- "from layout, instructions and doors"
@@ -143,13 +145,15 @@ tables_owed t =
 unfoldable pub writable : Tables → List ℕ → List Obligation
 writable t buffer = tables_owed t ++ (owes 16 0 (leb (length (file_of t)) (length buffer)) ∷ [])
 
--- the verdict on tables
+-- a device's verdict on tables
 abbrev pub concluded_of : Tables → Option Fault → Judgement
 concluded_of t None = accepted (length t.instructions) (length t.targets)
 concluded_of t (Some f) = refused f
 
-unfoldable pub tables_judged : Tables → Judgement
-tables_judged t = concluded_of t (first_fault (tables_owed t ++ verified (program_from t)))
+unfoldable pub tables_judged : Limits → Tables → Judgement
+tables_judged limits t =
+    concluded_of t
+    (first_fault (tables_owed t ++ (limit_rules limits (length t.instructions) (length t.targets) ++ verified (program_from t))))
 
 -- ---- the answer, and the buffer afterwards
 

@@ -223,7 +223,7 @@ impl fmt::Display for Ending {
     }
 }
 
-// What a refusal is for, each with its number: 1 to 15 are document 01's, 16 is document 02's.
+// What a refusal is for, each with its number: 1 to 15 are document 01's, those from 16 on document 02's.
 #[derive(Clone, Copy, PartialEq, Eq)]
 pub enum Rule {
     Truncated = 1,
@@ -242,6 +242,7 @@ pub enum Rule {
     BadPc = 14,
     NoRoom = 15,
     NoSpace = 16,
+    OverPlate = 17,
 }
 
 // Its number.
@@ -275,6 +276,29 @@ impl Rule {
     {
         Refusal { rule: self, place }
     }
+}
+
+// How much of a module a device holds (document 02, ticket 8): at most so many instructions and targets. A module that has more is
+// refused by 17. Hosts in other languages hand it over too, so its layout is C's.
+#[repr(C)]
+#[derive(Clone, Copy, PartialEq, Eq)]
+pub struct Limits {
+    pub instructions: u32,
+    pub targets: u32,
+}
+
+impl Limits {
+    // The box's: as much as a file can have.
+    pub const BOX: Limits = Limits {
+        instructions: 4096,
+        targets: 256,
+    };
+
+    // The scale plate's.
+    pub const PLATE: Limits = Limits {
+        instructions: 512,
+        targets: 32,
+    };
 }
 
 // The verifier's answer: what the accepted module holds, or the first refusal.

@@ -15,6 +15,12 @@ pub struct Fault {
     pub place: u32,
 }
 
+// Refusal 17.
+pub const OVER_PLATE: Fault = Fault {
+    number: 17,
+    place: 0,
+};
+
 // As a table has it: the number and the place.
 impl From<(u32, u32)> for Fault {
     fn from(row: (u32, u32)) -> Fault {
@@ -62,6 +68,18 @@ pub struct Start {
     pub place: u16,
     pub offset: usize,
     pub budget: u64,
+}
+
+impl Start {
+    // The answer to a run that is refused: nothing has moved.
+    pub(crate) fn refused(&self, fault: Fault) -> Ran {
+        Ran {
+            registers: self.registers,
+            place: self.place,
+            steps: 0,
+            outcome: Err(fault),
+        }
+    }
 }
 
 // This and the next are alike but for a word, and each names its own fields.

@@ -4,6 +4,7 @@
 use super::answer::Ending::{Spent, Strayed, TurnedAway};
 use super::answer::{Counts, Ending, Fault, Ran, Start};
 use super::build::{Ins, Kind, Layout, LongFile, MOST};
+use super::device::Device;
 use super::edge::DB;
 use super::order::Act;
 use super::order::Act::{BranchTo, Check, Halt, JumpTo, Jumpr, Pass, Set};
@@ -211,7 +212,7 @@ const SPREAD: Module = Module {
 pub const LOOKUPS: [Module; 6] = [EDGES, ONE_GROUP, FULL_GROUP, LONGEST, DENSE, SPREAD];
 
 // Puts door j with the instruction before it: an inner one claims that r1 is its index, and finds it so.
-fn put_door(file: &mut LongFile, j: u32, index: u32, kind: Kind) {
+pub(crate) fn put_door(file: &mut LongFile, j: u32, index: u32, kind: Kind) {
     if 0 < index {
         file.put_instruction(index - 1, Ins::from(Set(index)));
     }
@@ -244,7 +245,7 @@ impl Module {
 }
 
 // Instructions, each with its index, that stand in place of the module's own.
-fn changed(file: &LongFile, acts: &[(u32, Act)]) -> LongFile {
+pub(crate) fn changed(file: &LongFile, acts: &[(u32, Act)]) -> LongFile {
     let mut file = *file;
     for row in acts {
         let &(i, act) = row;
@@ -254,7 +255,11 @@ fn changed(file: &LongFile, acts: &[(u32, Act)]) -> LongFile {
 }
 
 fn judge(score: &mut Score, file: &LongFile, wrong: Option<(u32, u32)>) {
-    score.judge(file.as_slice(), file.verdict(wrong.map(Fault::from)));
+    score.judge(
+        Device::Box,
+        file.as_slice(),
+        file.verdict(wrong.map(Fault::from)),
+    );
 }
 
 // Jumps and branches at 1 to each index, with r1 as an inner door there claims it, and one above.
@@ -297,7 +302,7 @@ fn leads(score: &mut Score, base: &LongFile, x: Act, r1: u32, to: Result<u32, En
     };
     score.ask(|side| {
         let mut memory = [9u8; 256];
-        side.step(file.as_slice(), &start, &mut memory) == ran && memory == [9; 256]
+        side.step(Device::Box, file.as_slice(), &start, &mut memory) == ran && memory == [9; 256]
     });
 }
 
@@ -337,7 +342,7 @@ pub(crate) fn widened_row(score: &mut Score, module: &Module) {
         }
         let wrong = if there == NoDoor { Some((8, 1)) } else { None };
         let answer = given.verdict(wrong.map(Fault::from));
-        score.ask(|side| works_out(side, &given, answer, &after));
+        score.ask(|side| works_out(Device::Box, side, &given, answer, &after));
     }
 }
 

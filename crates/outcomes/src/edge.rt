@@ -3,6 +3,7 @@
 // is the one where its edge leads.
 use super::answer::{Fault, Verdict};
 use super::build::{ANYTHING, File, Ins, Kind, Layout, MOST, Op, Span, accesses, unary};
+use super::device::Device;
 use super::score::Score;
 
 // The region of most of these modules is DB to DL.
@@ -46,14 +47,14 @@ impl Edge {
         let (low, high) = left;
         let mut file = self.file();
         file.put_claim(2, r, left);
-        score.judge(file.as_slice(), file.verdict(None));
+        score.judge(Device::Box, file.as_slice(), file.verdict(None));
         if low < MOST {
             file.put_claim(2, r, (low + 1, MOST));
-            score.judge(file.as_slice(), TOO_NARROW);
+            score.judge(Device::Box, file.as_slice(), TOO_NARROW);
         }
         if 0 < high {
             file.put_claim(2, r, (0, high - 1));
-            score.judge(file.as_slice(), TOO_NARROW);
+            score.judge(Device::Box, file.as_slice(), TOO_NARROW);
         }
     }
 }
@@ -109,7 +110,7 @@ fn permits(score: &mut Score, edge: Edge, high: u32, wrong: Option<u32>) {
     let mut file = edge.file();
     file.put_claim(2, 2, (0, high));
     let fault = wrong.map(|number| Fault { number, place: 1 });
-    score.judge(file.as_slice(), file.verdict(fault));
+    score.judge(Device::Box, file.as_slice(), file.verdict(fault));
 }
 
 // w and imm of an access through r1, r1 before it, and the number of the refusal.

@@ -7,6 +7,9 @@ use super::edge::{access_row, cut_row, range_row, width_row};
 use super::known::{BUDGETS, budget_row};
 use super::limit::{CHAINS, COUNTS, chain_row, count_row};
 use super::order::{JUMPS, LAYOUTS, ORDERS, SPOILED, layout_row, order_row, spoiled_row};
+use super::plate::{
+    HOLDINGS, LATER, SETTINGS, SOONER, holding_row, later_row, setting_row, sooner_row,
+};
 use super::range::{ACCESSES, CUTS, MOVES, RULE_B, RULE_N, RULE_W, SHIFTS};
 use super::sample::{SAMPLES, WIDTHS, sample_row};
 use super::score::Score;
@@ -73,6 +76,13 @@ fn lookups(rt: &impl Print) -> io::Result<()> {
     group(rt, "doors that are out of place", &MISPLACED, misplaced_row)
 }
 
+fn devices(rt: &impl Print) -> io::Result<()> {
+    group(rt, "what box and plate hold", &HOLDINGS, holding_row)?;
+    group(rt, "1 to 7 before 17", &SOONER, sooner_row)?;
+    group(rt, "8 to 13 after 17", &LATER, later_row)?;
+    group(rt, "14 and 15 after 17", &SETTINGS, setting_row)
+}
+
 pub(crate) fn groups(rt: &impl Print) -> io::Result<()> {
     ranges(rt)?;
     judgements(rt)?;
@@ -80,5 +90,6 @@ pub(crate) fn groups(rt: &impl Print) -> io::Result<()> {
     group(rt, "widths of loads and stores", &WIDTHS, width_row)?;
     group(rt, "claims that are worked out", &MODULES, claims_row)?;
     group(rt, "claims of 256 doors", &CHAINS, chain_row)?;
-    lookups(rt)
+    lookups(rt)?;
+    devices(rt)
 }

@@ -3,7 +3,8 @@
 use super::answer::Ending::{Spent, Trapped};
 use super::answer::{Ending, PAST, Ran, Start, Told};
 use super::build::Op::{Addi, Branch, Guard, Halt, Jump, Load, Set};
-use super::build::{ANYTHING, Code, File, Kind, Layout, MOST, Span};
+use super::build::{ANYTHING, Code, File, Kind, Layout, LongFile, MOST, Span};
+use super::device::Device;
 use super::score::Score;
 use super::side::Side;
 use std::fmt::Display;
@@ -140,21 +141,21 @@ impl Display for Seen {
     }
 }
 
-fn verdicts(rt: &impl Print, words: &str, file: &[u8]) -> io::Result<()> {
-    let ours = Told(Side::Ours.verify(file));
-    let theirs = Told(Side::Theirs.verify(file));
+fn verdicts(rt: &impl Print, words: &str, device: Device, file: &[u8]) -> io::Result<()> {
+    let ours = Told(Side::Ours.verify(device, file));
+    let theirs = Told(Side::Theirs.verify(device, file));
     println!(rt; "{words}: {ours} and {theirs}")
 }
 
 fn module_verdicts(rt: &impl Print, words: &str, module: &Module) -> io::Result<()> {
-    verdicts(rt, words, module.file().as_slice())
+    verdicts(rt, words, Device::Box, module.file().as_slice())
 }
 
 // The loop, with this guard, and with r1 claimed to be at most this.
 fn loop_verdicts(rt: &impl Print, words: &str, guard: u32, most: u32) -> io::Result<()> {
     let mut file = Module { guard, ..LOOP }.file();
     file.put_claim(1, 1, (BASE, most));
-    verdicts(rt, words, file.as_slice())
+    verdicts(rt, words, Device::Box, file.as_slice())
 }
 
 // A run with 0 in every register, over a memory of sevens that holds the region.
@@ -166,7 +167,7 @@ fn run_of(side: Side, file: &[u8], budget: u64) -> Ran {
         budget,
     };
     let mut memory = [7u8; 5000];
-    side.run(file, &start, &mut memory)
+    side.run(Device::Box, file, &start, &mut memory)
 }
 
 // The module's run; register r is shown.
@@ -211,7 +212,7 @@ fn known_loop(rt: &impl Print) -> io::Result<()> {
     loop_verdicts(rt, "the loop with guard 7", 7, LAST + 4)?;
     loop_verdicts(rt, "the loop with guard 6", 6, LAST + 4)?;
     loop_verdicts(rt, "the loop with r1 claimed DB to DL", 256, LAST)?;
-    verdicts(rt, "the empty module", b"")?;
+    verdicts(rt, "the empty module", Device::Box, b"")?;
     runs(rt, "the loop's run", &LOOP, 1)
 }
 
@@ -224,7 +225,27 @@ fn known_turns(rt: &impl Print) -> io::Result<()> {
     runs(rt, "its run", &WRAPPED, 0)
 }
 
+// The loop, and one instruction more than the plate holds.
+fn known_devices(rt: &impl Print) -> io::Result<()> {
+    let mut halts = LongFile::new(Layout::from([BASE, SIZE, 256]), 513, 1);
+    halts.put_door(0, 0, Kind::Open);
+    verdicts(
+        rt,
+        "the loop on the plate",
+        Device::Plate,
+        LOOP.file().as_slice(),
+    )?;
+    verdicts(
+        rt,
+        "513 halts on the plate",
+        Device::Plate,
+        halts.as_slice(),
+    )?;
+    verdicts(rt, "513 halts on the box", Device::Box, halts.as_slice())
+}
+
 pub(crate) fn known(rt: &impl Print) -> io::Result<()> {
     known_loop(rt)?;
-    known_turns(rt)
+    known_turns(rt)?;
+    known_devices(rt)
 }

@@ -2,13 +2,14 @@
 // many doors as there may be, with claims that are worked out.
 use super::answer::Fault;
 use super::build::{Kind, Layout, LongFile, Op, immediate, instruction_at};
+use super::device::Device;
 use super::edge::DB;
 use super::score::Score;
 use super::side::Side;
 
 // Instructions from `checks` - 1 up are checks, and the others halt. Door j is at j; the first is open and claims
 // anything, and the others are inner.
-fn long(n: u32, k: u32, checks: u32) -> LongFile {
+pub(crate) fn long(n: u32, k: u32, checks: u32) -> LongFile {
     let mut file = LongFile::new(Layout::from([DB, 256, 256]), n, k);
     for i in checks..n {
         file.put::<1>(instruction_at(i) - 8, Op::Check as u32);
@@ -38,7 +39,11 @@ pub const COUNTS: [CountRow; 9] = [
 pub(crate) fn count_row(score: &mut Score, row: &CountRow) {
     let &(n, k, wrong) = row;
     let file = long(n, k, k);
-    score.judge(file.as_slice(), file.verdict(wrong.map(Fault::from)));
+    score.judge(
+        Device::Box,
+        file.as_slice(),
+        file.verdict(wrong.map(Fault::from)),
+    );
 }
 
 // How many instructions.
@@ -52,8 +57,8 @@ pub(crate) fn chain_row(score: &mut Score, n: &u32) {
     let answer = given.verdict(None);
     let mut left = given;
     let mut right = given;
-    let x = Side::Ours.work_out(left.as_mut_slice());
-    let y = Side::Theirs.work_out(right.as_mut_slice());
+    let x = Side::Ours.work_out(Device::Box, left.as_mut_slice());
+    let y = Side::Theirs.work_out(Device::Box, right.as_mut_slice());
     let alike = left == right && left.claims(255, 0, (5, 5));
     score.note(alike && x == answer, alike && y == answer);
 }

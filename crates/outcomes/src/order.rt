@@ -2,6 +2,7 @@
 // r1 is 5.
 use super::answer::Fault;
 use super::build::{File, HALT, Ins, Kind, Layout, Op, immediate, unary};
+use super::device::Device;
 use super::edge::DB;
 use super::score::Score;
 use Act::{Add, BranchTo, Check, Halt, JumpTo, Jumpr, Pass, Set, Wild};
@@ -104,7 +105,11 @@ fn module(layout: Layout, n: u32, inner: Option<u32>, acts: [Act; 3]) -> File {
 pub(crate) fn order_row(score: &mut Score, row: &OrderRow) {
     let &(n, inner, acts, wrong) = row;
     let file = module(Layout::from([DB, 256, 256]), n, inner, acts);
-    score.judge(file.as_slice(), file.verdict(wrong.map(Fault::from)));
+    score.judge(
+        Device::Box,
+        file.as_slice(),
+        file.verdict(wrong.map(Fault::from)),
+    );
 }
 
 // The module of the rows below, of 113 bytes.
@@ -134,7 +139,7 @@ pub(crate) fn spoiled_row(score: &mut Score, row: &SpoiledRow) {
     file.put::<1>(26, op);
     file.put::<1>(47, kind);
     file.length = length;
-    score.judge(file.as_slice(), Err(Fault::from(wrong)));
+    score.judge(Device::Box, file.as_slice(), Err(Fault::from(wrong)));
 }
 
 // Base, size and guard, and the refusal's number.
@@ -167,5 +172,5 @@ pub(crate) fn layout_row(score: &mut Score, row: &LayoutRow) {
     let &(layout, wrong) = row;
     let file = small(layout);
     let fault = wrong.map(|number| Fault { number, place: 0 });
-    score.judge(file.as_slice(), file.verdict(fault));
+    score.judge(Device::Box, file.as_slice(), file.verdict(fault));
 }

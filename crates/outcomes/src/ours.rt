@@ -2,7 +2,8 @@
 // claims. The functions and `From`s of this file and of theirs are one for each implementation: they call different crates, whose
 // types have nothing in common.
 use super::answer::{Counts, Ending, Fault, Ran, Start, Verdict};
-use model::{Contents, Machine, Outcome};
+use super::device::Device;
+use model::{Contents, Limits, Machine, Outcome};
 
 impl From<model::Refusal> for Fault {
     fn from(refusal: model::Refusal) -> Fault {
@@ -34,12 +35,27 @@ impl From<Contents> for Counts {
     }
 }
 
-pub(crate) fn verify(file: &[u8]) -> Verdict {
-    Ok(Counts::from(verifier::verify::verify(file)?))
+impl From<Device> for Limits {
+    fn from(device: Device) -> Limits {
+        match device {
+            Device::Box => Limits::BOX,
+            Device::Plate => Limits::PLATE,
+            Device::Other(instructions, targets) => Limits {
+                instructions,
+                targets,
+            },
+        }
+    }
 }
 
-pub(crate) fn work_out(file: &mut [u8]) -> Verdict {
-    Ok(Counts::from(claims::work_out::work_out(file)?))
+pub(crate) fn verify(device: Device, file: &[u8]) -> Verdict {
+    let limits = Limits::from(device);
+    Ok(Counts::from(verifier::verify::verify(limits, file)?))
+}
+
+pub(crate) fn work_out(device: Device, file: &mut [u8]) -> Verdict {
+    let limits = Limits::from(device);
+    Ok(Counts::from(claims::work_out::work_out(limits, file)?))
 }
 
 // The machine as the host leaves it.
@@ -65,12 +81,14 @@ impl From<Outcome> for Ran {
     }
 }
 
-pub(crate) fn run(file: &[u8], start: &Start, memory: &mut [u8]) -> Ran {
+pub(crate) fn run(device: Device, file: &[u8], start: &Start, memory: &mut [u8]) -> Ran {
+    let limits = Limits::from(device);
     let from = machine_at(start);
-    Ran::from(machine::value::run(file, from, memory, start.offset, start.budget))
+    Ran::from(machine::value::run(limits, file, from, memory, start.offset, start.budget))
 }
 
-pub(crate) fn step(file: &[u8], start: &Start, memory: &mut [u8]) -> Ran {
+pub(crate) fn step(device: Device, file: &[u8], start: &Start, memory: &mut [u8]) -> Ran {
+    let limits = Limits::from(device);
     let from = machine_at(start);
-    Ran::from(machine::value::step(file, from, memory, start.offset))
+    Ran::from(machine::value::step(limits, file, from, memory, start.offset))
 }

@@ -1,6 +1,8 @@
 // The two implementations, asked in one way. An enum and no trait: a test is a closure that asks either, and a closure is not generic.
-// What a side is asked for, it has a function for; a file, a start and a memory are what either takes.
+// What a side is asked for, it has a function for; a device, a file, a start and a memory are what
+// either takes.
 use super::answer::{Ran, Start, Verdict};
+use super::device::Device;
 use super::{ours, theirs};
 
 #[derive(Clone, Copy)]
@@ -17,32 +19,32 @@ impl Side {
         holds(Side::Ours) && holds(Side::Theirs)
     }
 
-    pub(crate) fn verify(self, file: &[u8]) -> Verdict {
+    pub(crate) fn verify(self, device: Device, file: &[u8]) -> Verdict {
         match self {
-            Side::Ours => ours::verify(file),
-            Side::Theirs => theirs::verify(file),
+            Side::Ours => ours::verify(device, file),
+            Side::Theirs => theirs::verify(device, file),
         }
     }
 
-    pub(crate) fn work_out(self, file: &mut [u8]) -> Verdict {
+    pub(crate) fn work_out(self, device: Device, file: &mut [u8]) -> Verdict {
         match self {
-            Side::Ours => ours::work_out(file),
-            Side::Theirs => theirs::work_out(file),
+            Side::Ours => ours::work_out(device, file),
+            Side::Theirs => theirs::work_out(device, file),
         }
     }
 
-    pub(crate) fn run(self, file: &[u8], start: &Start, memory: &mut [u8]) -> Ran {
+    pub(crate) fn run(self, device: Device, file: &[u8], start: &Start, memory: &mut [u8]) -> Ran {
         match self {
-            Side::Ours => ours::run(file, start, memory),
-            Side::Theirs => theirs::run(file, start, memory),
+            Side::Ours => ours::run(device, file, start, memory),
+            Side::Theirs => theirs::run(device, file, start, memory),
         }
     }
 
     // A run of one step, as the budget says. The reference has no step by itself.
-    pub(crate) fn step(self, file: &[u8], start: &Start, memory: &mut [u8]) -> Ran {
+    pub(crate) fn step(self, device: Device, file: &[u8], start: &Start, memory: &mut [u8]) -> Ran {
         match self {
-            Side::Ours => ours::step(file, start, memory),
-            Side::Theirs => theirs::run(file, start, memory),
+            Side::Ours => ours::step(device, file, start, memory),
+            Side::Theirs => theirs::run(device, file, start, memory),
         }
     }
 }

@@ -3,6 +3,7 @@ use super::answer::Ending::{Spent, Strayed, Trapped, TurnedAway};
 use super::answer::{Ending, Fault, Ran, Start};
 use super::build::Op::{Branch, Check, Guard, Jump, Jumpr, Load, Sar, Shr, Store};
 use super::build::{File, Ins, Kind, Layout, Op, accesses, unary};
+use super::device::Device;
 use super::edge::{DB, DL};
 use super::score::Score;
 
@@ -101,7 +102,7 @@ impl Step {
         };
         score.ask(|side| {
             let mut memory = before;
-            side.step(file.as_slice(), &start, &mut memory) == ran && memory == after
+            side.step(Device::Box, file.as_slice(), &start, &mut memory) == ran && memory == after
         });
     }
 }
@@ -286,7 +287,12 @@ pub(crate) fn room_row(score: &mut Score, row: &RoomRow) {
     };
     score.ask(|side| {
         let mut memory = state.memory();
-        let ran = side.run(file.as_slice(), &start, &mut memory[..length.min(400)]);
+        let ran = side.run(
+            Device::Box,
+            file.as_slice(),
+            &start,
+            &mut memory[..length.min(400)],
+        );
         match wrong {
             Some(number) => ran.outcome == Err(Fault { number, place: 0 }) && ran.steps == 0,
             None => ran.outcome.is_ok() && ran.steps == 1,

@@ -9,13 +9,13 @@ fn up(count: &mut u32) {
 
 // How many pairs of answers were compared, and how many of them are alike.
 #[derive(Clone, Copy, Default)]
-struct Agreement {
+pub struct Agreement {
     alike: u32,
     all: u32,
 }
 
 impl Agreement {
-    fn count(&mut self, alike: bool) {
+    pub(crate) fn count(&mut self, alike: bool) {
         up(&mut self.all);
         if alike {
             up(&mut self.alike);

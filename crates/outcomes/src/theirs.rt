@@ -1,5 +1,7 @@
 // The reference, which was written by itself.
 use super::answer::{Counts, Ending, Fault, Ran, Start, Verdict};
+use super::device::Device;
+use reference::Limits;
 
 impl From<reference::Refusal> for Fault {
     fn from(refusal: reference::Refusal) -> Fault {
@@ -31,16 +33,30 @@ impl From<reference::Ending> for Ending {
     }
 }
 
-pub(crate) fn verify(file: &[u8]) -> Verdict {
-    Ok(Counts::from(reference::verify(file)?))
+impl From<Device> for Limits {
+    fn from(device: Device) -> Limits {
+        match device {
+            Device::Box => Limits::BOX,
+            Device::Plate => Limits::PLATE,
+            Device::Other(instructions, doors) => Limits {
+                instructions,
+                doors,
+            },
+        }
+    }
 }
 
-pub(crate) fn work_out(file: &mut [u8]) -> Verdict {
-    Ok(Counts::from(reference::work_out(file)?))
+pub(crate) fn verify(device: Device, file: &[u8]) -> Verdict {
+    Ok(Counts::from(reference::verify(Limits::from(device), file)?))
 }
 
-pub(crate) fn run(file: &[u8], start: &Start, memory: &mut [u8]) -> Ran {
+pub(crate) fn work_out(device: Device, file: &mut [u8]) -> Verdict {
+    Ok(Counts::from(reference::work_out(Limits::from(device), file)?))
+}
+
+pub(crate) fn run(device: Device, file: &[u8], start: &Start, memory: &mut [u8]) -> Ran {
     let ran = reference::run(
+        Limits::from(device),
         file,
         start.registers,
         start.place,

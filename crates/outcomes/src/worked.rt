@@ -3,6 +3,7 @@
 use super::answer::{Fault, Verdict};
 use super::build::Op::{Addi, Andi, Branch, Guard, Halt, Jump, Load, Set};
 use super::build::{Code, File, Kind, Layout, MOST, Span};
+use super::device::Device;
 use super::score::Score;
 use super::work::works_out;
 
@@ -291,6 +292,6 @@ pub(crate) fn claims_row(score: &mut Score, module: &Module) {
     let given = module.spoiled();
     let after = module.worked_out();
     let answer = module.verdict();
-    score.judge(given.as_slice(), WRONG_CLAIM);
-    score.ask(|side| works_out(side, &given, answer, &after));
+    score.judge(Device::Box, given.as_slice(), WRONG_CLAIM);
+    score.ask(|side| works_out(Device::Box, side, &given, answer, &after));
 }

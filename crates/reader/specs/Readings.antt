@@ -2,15 +2,17 @@
 use Rattle.std.specs.Prelude.{ℕ, Bool, true, false, List, Result, Ok, Err, Option, None, Some}
 use Rattle.std.specs.Borrow.{Bor}
 use Rattle.model.specs.declared.Layout.{Layout}
+use Rattle.model.specs.declared.Limits.{Limits}
 use Rattle.model.specs.Obligations.{Fault, first_fault}
 use Rattle.model.specs.Answers.{fault_of}
 use Rattle.model.specs.File.{code_start, targets_at, code_in, targets_in, instruction_count, target_count, layout_in, TargetRow, is_placed_target, is_good_target, readable_by, program_of}
+use Rattle.model.specs.Limits.{loadable_by}
 use Rattle.model.specs.Program.{Program}
 use Rattle.model.specs.declared.Refusal.{Refusal}
 use Rattle.reader.specs.declared.module.Module.{Module}
 use Rattle.reader.specs.Fields.{ValuePart}
 
--- layout and counts, or the first of refusals 1 to 7
+-- layout and counts, or the first of refusals 1 to 7, on a device also 17
 pub data ReadReport : Type 0 where
   holds : Layout → ℕ → ℕ → ReadReport
   refused : Fault → ReadReport
@@ -29,6 +31,13 @@ reading_by claims file = read_report file (first_fault (readable_by (asked claim
 
 abbrev pub reading : List ℕ → ReadReport
 reading = reading_by true
+
+-- and by a device
+unfoldable pub loading_by : Bool → Limits → List ℕ → ReadReport
+loading_by claims limits file = read_report file (first_fault (loadable_by (asked claims) limits file))
+
+abbrev pub loading : Limits → List ℕ → ReadReport
+loading = loading_by true
 
 unfoldable pub reading_of : Result Module Refusal → ReadReport
 reading_of (Ok m) = holds m.layout m.held.instructions m.held.targets

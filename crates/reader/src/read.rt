@@ -4,11 +4,11 @@ ghost use Rattle.model.specs.Obligations.{first_fault};
 ghost use Rattle.model.specs.File.{code_start, targets_at, instruction_in, target_row_in, table_rules};
 ghost use Rattle.reader.specs.Findings.{fault_in};
 ghost use Rattle.reader.specs.Fields.{ValuePart};
-ghost use Rattle.reader.specs.Readings.{PartsOf, asked, reading_of, reading_by, reading};
+ghost use Rattle.reader.specs.Readings.{PartsOf, asked, reading_of, reading_by, reading, loading_by, loading};
 
 use crate::module::Module;
-use crate::{decode, field, finding, layout, target};
-use model::{Contents, Layout, Refusal, Rule};
+use crate::{decode, field, finding, layout, limits, target};
+use model::{Contents, Layout, Limits, Refusal, Rule};
 
 // The tags of the three fields, and the offsets of the first two. A tag is a byte of the file, and a field may be asked for by any.
 pub const LAYOUT_TAG: u8 = 1;
@@ -91,10 +91,28 @@ pub fn read(file: &[u8]) -> Result<Module<'_>, Refusal>
     read_module(file, true)
 }
 
-// The same, claims ignored: 7 but for the order of their ends.
-pub fn read_but_claims(file: &[u8]) -> Result<Module<'_>, Refusal>
-    ensures report { reading_of result ≡ reading_by false file.now }
+// A module that a device with such limits holds.
+fn load_module(limits: Limits, file: &[u8], claims: bool) -> Result<Module<'_>, Refusal>
+    ensures report { reading_of result ≡ loading_by claims limits file.now }
     ensures parts { IfOk result (λ m. PartsOf file.entry m) }
 {
-    read_module(file, false)
+    let module = read_module(file, claims)?;
+    limits::check(limits, module.held)?;
+    Ok(module)
+}
+
+// What a device begins with: the module, or the first of refusals 1 to 7 and 17.
+pub fn load(limits: Limits, file: &[u8]) -> Result<Module<'_>, Refusal>
+    ensures report { reading_of result ≡ loading limits file.now }
+    ensures parts { IfOk result (λ m. PartsOf file.entry m) }
+{
+    load_module(limits, file, true)
+}
+
+// The same, claims ignored: 7 but for the order of their ends.
+pub fn load_but_claims(limits: Limits, file: &[u8]) -> Result<Module<'_>, Refusal>
+    ensures report { reading_of result ≡ loading_by false limits file.now }
+    ensures parts { IfOk result (λ m. PartsOf file.entry m) }
+{
+    load_module(limits, file, false)
 }

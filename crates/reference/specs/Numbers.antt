@@ -1,7 +1,7 @@
 -- The documents' numbers of refusals and endings.
 use Rattle.std.specs.Prelude.{ℕ}
 use Rattle.reference.specs.declared.answer.Rule.{Rule}
-use Rattle.reference.specs.declared.answer.Rule.TheVariants.{Short, WrongTag, BadLength, Tail, BadLayout, BadInstruction, BadDoor, NoDoor, UncheckedJump, WildAccess, BrokenClaim, NoWayIn, RunsOff, BadPlace, NoGround, NoSpace}
+use Rattle.reference.specs.declared.answer.Rule.TheVariants.{Short, WrongTag, BadLength, Tail, BadLayout, BadInstruction, BadDoor, NoDoor, UncheckedJump, WildAccess, BrokenClaim, NoWayIn, RunsOff, BadPlace, NoGround, NoSpace, OverPlate}
 use Rattle.reference.specs.declared.answer.Ending.{Ending}
 use Rattle.reference.specs.declared.answer.Ending.TheVariants.{Halted, Trapped, TurnedAway, Strayed, Spent}
 
@@ -22,6 +22,7 @@ rule_number RunsOff = 13
 rule_number BadPlace = 14
 rule_number NoGround = 15
 rule_number NoSpace = 16
+rule_number OverPlate = 17
 
 abbrev pub ending_number : Ending → ℕ
 ending_number Halted = 0

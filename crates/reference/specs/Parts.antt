@@ -4,8 +4,9 @@ use Rattle.reference.specs.declared.answer.Ending.{Ending}
 use Rattle.reference.specs.declared.answer.Ending.TheVariants.{Spent}
 use Rattle.reference.specs.declared.answer.Refusal.{Refusal}
 use Rattle.reference.specs.declared.answer.Rule.{Rule}
+use Rattle.reference.specs.declared.device.Limits.{Limits}
 use Rattle.reference.specs.Numbers.{rule_number}
-use Rattle.reference.specs.Verdicts.{Refused}
+use Rattle.reference.specs.Verdicts.{Held, Placed, Refused, Within}
 
 -- A field's bytes are whole pieces of this size, at least one and at most so many.
 pub record Pieces (size most bytes : ℕ) : Type 0 where
@@ -31,8 +32,19 @@ pub record Misshapen (e : Refusal) : Type 0 where
 
 -- Refusals 1 to 7.
 pub record Unread (e : Refusal) : Type 0 where
-  pub refused : Refused e
-  pub few : rule_number e.rule ≤ 7
+  pub some : 1 ≤ rule_number e.rule
+  pub most : rule_number e.rule ≤ 7
+  pub placed : Placed e
+
+-- Refusals 1 to 7, and 17.
+pub record Unheld (l : Limits) (e : Refusal) : Type 0 where
+  pub refused : Refused l e
+  pub few : 7 < rule_number e.rule → rule_number e.rule ≡ 17
+
+-- A module that was read has the file's length, and the device holds it.
+pub record ReadIn (l : Limits) (bytes n k : ℕ) : Type 0 where
+  pub held : Held bytes n k
+  pub within : Within l n k
 
 -- A demand that fails at an index is numbered 8 to 13.
 pub record Demand (rule : Rule) : Type 0 where

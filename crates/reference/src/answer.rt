@@ -1,7 +1,7 @@
 // The answers: the documents' refusals, counts and endings.
 ghost use Rattle.std.specs.Prelude.{◌≡◌, ◌≤◌};
 
-// The rules of refusals 1 to 16, in the documents' words. Their numbers, and those of the endings, are matches: with the numbers beside
+// The rules of refusals 1 to 17, in the documents' words. Their numbers, and those of the endings, are matches: with the numbers beside
 // the names a wrong one could not be tried, as no two may be the same.
 #[derive(Clone, Copy, PartialEq, Eq)]
 pub enum Rule {
@@ -21,6 +21,7 @@ pub enum Rule {
     BadPlace,
     NoGround,
     NoSpace,
+    OverPlate,
 }
 
 impl From<Rule> for u32 {
@@ -46,6 +47,7 @@ impl From<Rule> for u32 {
             Rule::BadPlace => 14,
             Rule::NoGround => 15,
             Rule::NoSpace => 16,
+            Rule::OverPlate => 17,
         }
     }
 }

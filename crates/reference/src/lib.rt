@@ -4,13 +4,14 @@
 #![tactic(auto)]
 
 ghost use Rattle.std.specs.Prelude.{◌≤◌, length, MatchResult};
-ghost use Rattle.reference.specs.Runs.{RunRule, RunSaid};
+ghost use Rattle.reference.specs.Runs.{RunRefused, RunSaid};
 ghost use Rattle.reference.specs.Verdicts.{VerifySaid};
 ghost use Rattle.reference.specs.Works.{WorkSaid};
 ghost use Rattle.reference.specs.Writes.{WriteSaid};
 
 mod answer;
 mod decode;
+mod device;
 mod door;
 mod field;
 mod know;
@@ -24,17 +25,18 @@ mod tables;
 mod widen;
 
 pub use answer::{Counts, Ending, Ran, Refusal, Rule};
+pub use device::Limits;
 pub use layout::Layout;
 use load::Module;
 use machine::Machine;
 use tables::Tables;
 
-// Accepted with instructions and doors, or refused with a number from 1 to 13 and its place. The contract does not
+// Accepted with instructions and doors, or refused with a number from 1 to 13, or 17, and its place. The contract does not
 // settle which of the two it is, nor which number and place: that the answer is right is tested by comparison.
-pub fn verify(file: &[u8]) -> Result<Counts, Refusal>
-    ensures { VerifySaid (length file.now) result }
+pub fn verify(limits: Limits, file: &[u8]) -> Result<Counts, Refusal>
+    ensures { VerifySaid limits (length file.now) result }
 {
-    let module = Module::read(file, false)?;
+    let module = Module::read(limits, file, false)?;
     module.judge()?;
     Ok(module.shape.counts())
 }
@@ -43,20 +45,21 @@ pub fn verify(file: &[u8]) -> Result<Counts, Refusal>
 // document 02. The answer is `verify`'s of the file with these claims, and only a file that is accepted is written to.
 // The contract does not settle which answer it is, nor which claims are written: that both are right is tested by
 // comparison.
-pub fn work_out(file: &mut [u8]) -> Result<Counts, Refusal>
-    ensures { WorkSaid file.old file.new result }
+pub fn work_out(limits: Limits, file: &mut [u8]) -> Result<Counts, Refusal>
+    ensures { WorkSaid limits file.old file.new result }
 {
-    let mut module = Module::read(file, true)?;
+    let mut module = Module::read(limits, file, true)?;
     module.claims = module.worked_out();
     module.judge()?;
     module.write_claims(file);
     Ok(module.shape.counts())
 }
 
-// A run of at most budget steps: refused by a rule of 1 to 7, 14 or 15, or with its ending. Budget and count are 64 bits wide by ticket
-// 6 of document 02. The contract does not settle which of them it is, nor the place of a refusal, nor what a run does to registers,
-// place and memory: that these are right is tested by comparison.
+// A run of at most budget steps: refused by a rule of 1 to 7, 14, 15 or 17, or with its ending. Budget and count are 64 bits wide by
+// ticket 6 of document 02. The contract does not settle which of them it is, nor the place of a refusal by 1 to 7, nor what a run does
+// to registers, place and memory: that these are right is tested by comparison.
 pub fn run(
+    limits: Limits,
     file: &[u8],
     registers: [u32; 8],
     place: u16,
@@ -64,9 +67,9 @@ pub fn run(
     offset: usize,
     budget: u64,
 ) -> Ran
-    ensures { RunSaid registers place budget memory.old memory.new result }
+    ensures { RunSaid limits registers place budget memory.old memory.new result }
 {
-    match ready(file, place, memory.len(), offset) {
+    match ready(limits, file, place, memory.len(), offset) {
         Ok((module, end)) => {
             Machine::at(registers, place).run(&module, &mut memory[offset..end], budget)
         }
@@ -80,10 +83,16 @@ pub fn run(
 }
 
 // The module, and where its region ends in a memory of so many bytes: of the length alone, since the bytes are lent to the run.
-fn ready(file: &[u8], place: u16, length: usize, offset: usize) -> Result<(Module, usize), Refusal>
-    ensures { MatchResult result (λ m. (offset ≤ m.1) × (m.1 ≤ length)) (λ e. RunRule e.rule) }
+fn ready(
+    limits: Limits,
+    file: &[u8],
+    place: u16,
+    length: usize,
+    offset: usize,
+) -> Result<(Module, usize), Refusal>
+    ensures { MatchResult result (λ m. (offset ≤ m.1) × (m.1 ≤ length)) (λ e. RunRefused limits e) }
 {
-    let module = Module::read(file, false)?;
+    let module = Module::read(limits, file, false)?;
     if module.shape.n <= usize::from(place) {
         return Err(Refusal::at(Rule::BadPlace, 0));
     }

@@ -1,10 +1,10 @@
-// A module file in flat tables, and refusals 6 and 7.
+// A module file in flat tables, and refusals 6, 7 and 17.
 ghost use Rattle.std.specs.Prelude.{◌<◌, length, IfErr, MatchResult};
-ghost use Rattle.reference.specs.Parts.{Unread};
-ghost use Rattle.reference.specs.Verdicts.{Held};
+ghost use Rattle.reference.specs.Parts.{ReadIn, Unheld, Unread};
 
 use super::answer::{Refusal, Rule};
 use super::decode::{Ins, decode};
+use super::device::Limits;
 use super::door::{Door, Kind};
 use super::field::{Shape, shape_of};
 use super::know::Known;
@@ -100,12 +100,14 @@ pub(crate) fn next(i: usize) -> usize {
 }
 
 impl Module {
-    pub(crate) fn read(file: &[u8], free: bool) -> Result<Module, Refusal>
-        ensures { MatchResult result (λ m. Held (length file.now) m.shape.n m.shape.k) (λ e. Unread e) }
+    // The limits come after all that the file has to keep.
+    pub(crate) fn read(limits: Limits, file: &[u8], free: bool) -> Result<Module, Refusal>
+        ensures { MatchResult result (λ m. ReadIn limits (length file.now) m.shape.n m.shape.k) (λ e. Unheld limits e) }
     {
         let shape = shape_of(file)?;
         let code = read_code(file, shape)?;
         let (marks, claims) = read_doors(file, shape, free)?;
+        limits.hold(shape)?;
         Ok(Module {
             shape,
             code,

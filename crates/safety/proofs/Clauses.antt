@@ -7,6 +7,7 @@ use mathlib.Core.List.{List, [], ◌∷◌, ◌++◌, Memᴰ}
 use native.Mathlib.Omega.{arith}
 use lib.Dec.{leb}
 use lib.ListN.{length, get_or, length-append}
+use Rattle.model.specs.declared.Limits.{Limits}
 use Rattle.model.specs.declared.Machine.{Machine}
 use Rattle.model.specs.Program.{Program}
 use Rattle.model.specs.Step.{Step}
@@ -29,8 +30,8 @@ module _ (p : Program) (m : Machine) (memory : List ℕ) (c : Call) where
   unfolding walk_call
   before_is = by_cond (λ (w : Walked). w.before ≡ memory) (leb (c.offset + p.layout.size) (length memory)) (λ _. refl) (λ _. refl)
 
-module _ (file : List ℕ) (m : Machine) (start : List ℕ) (c d : Call) (s t : Seen)
-    (fed : Fed file m (c ∷ d ∷ [])) (called : Called file m start (c ∷ d ∷ []) (s ∷ t ∷ [])) where
+module _ (limits : Limits) (file : List ℕ) (m : Machine) (start : List ℕ) (c d : Call) (s t : Seen)
+    (fed : Fed limits file m (c ∷ d ∷ [])) (called : Called limits file m start (c ∷ d ∷ []) (s ∷ t ∷ [])) where
   abbrev p : Program
   p = program_in file
 
@@ -41,7 +42,7 @@ module _ (file : List ℕ) (m : Machine) (start : List ℕ) (c d : Call) (s t : 
   v = walk_second p m start c d
 
   safe : Safe p m start (c ∷ d ∷ []) (s ∷ t ∷ [])
-  safe = safety.safe file m start (c ∷ d ∷ []) (s ∷ t ∷ []) fed called
+  safe = safety.safe limits file m start (c ∷ d ∷ []) (s ∷ t ∷ []) fed called
 
   walk_is : walk p m start (c ∷ d ∷ []) ≡ w ∷ v ∷ []
   unfolding walk

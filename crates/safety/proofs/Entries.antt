@@ -1,20 +1,17 @@
 -- What `verify` ensures of an answer that is accepted, for demand 3. Assumes nothing.
+use mathlib.Core.Path.{◌≡◌, sym, ap, ◌∙◌}
 use Prim.Native.Nat.{ℕ}
-use mathlib.Core.Path.{◌≡◌, refl, sym, ap, ◌∙◌}
 use mathlib.Core.List.{List}
-use Rattle.std.specs.Prelude.{Option, None, Some, Result, Ok}
-use native.Mathlib.Omega.{arith}
+use Rattle.std.specs.Prelude.{None, Result, Ok}
 use Rattle.model.specs.declared.Contents.{Contents}
+use Rattle.model.specs.declared.Limits.{Limits}
 use Rattle.model.specs.declared.Refusal.{Refusal}
-use Rattle.model.specs.Obligations.{Fault}
-use Rattle.model.specs.Answers.{accepted, judgement_of}
-use Rattle.model.specs.Judgement.{first_broken, concluded, judgement}
+use Rattle.model.specs.Answers.{judgement_of}
+use Rattle.model.specs.Judgement.{first_broken, judgement}
+use Rattle.model.proofs.Numbers.{accepted_judged}
 
 -- a verdict of accepted means that no rule is broken; `meant` is what `verify` ensures of its answer
-pub accepted_means : (file : List ℕ) (v : Result Contents Refusal) (held : Contents) → judgement_of v ≡ judgement file → v ≡ Ok held → first_broken file ≡ None
-unfolding judgement_of judgement
-accepted_means file v held meant answered = none_judged (first_broken file) (sym (ap judgement_of answered) ∙ meant)
-  where
-    none_judged : (o : Option Fault) → accepted held.instructions held.targets ≡ concluded file o → o ≡ None
-    none_judged None same = refl
-    none_judged (Some f) same = absurd (let impossible : ◌≡◌ {A = ℕ} 0 1 = cc in omega arith)
+pub accepted_means : (limits : Limits) (file : List ℕ) (v : Result Contents Refusal) (held : Contents) → judgement_of v ≡ judgement limits file
+    → v ≡ Ok held → first_broken limits file ≡ None
+unfolding judgement_of
+accepted_means limits file v held meant answered = accepted_judged limits file _ _ (sym meant ∙ ap judgement_of answered)

@@ -8,6 +8,7 @@ use Rattle.std.specs.Prelude.{Option, None, Some}
 use native.Mathlib.Omega.{arith}
 use native.Mathlib.Numerals.{add-one}
 use lib.ListN.{length, get_or-replicate}
+use Rattle.model.specs.declared.Limits.{Limits}
 use Rattle.model.specs.declared.Machine.{Machine}
 use Rattle.model.specs.declared.Ranges.{Ranges}
 use Rattle.model.specs.declared.Target.{Target}
@@ -19,7 +20,7 @@ use Rattle.model.specs.Ranges.{region_range}
 use Rattle.model.specs.Step.{shape_at}
 use Rattle.model.specs.File.{byte_at, program_of, program_in}
 use Rattle.model.specs.Judgement.{traits_at, starting_ranges, claim_or, known_at, first_broken}
-use Rattle.model.specs.Rules.{LayoutKept, LiesWithin, FileKept, IndexKept, KeepsEveryRule}
+use Rattle.model.specs.Rules.{LayoutKept, LiesWithin, FileKept, HeldBy, IndexKept, KeepsEveryRule}
 use Rattle.model.specs.Safety.{EightWords, ClaimKept}
 use Rattle.model.specs.Accuracy.{Within}
 use Rattle.model.proofs.Accepted.{accepted_iff}
@@ -36,20 +37,22 @@ pub record Invariant (p : Program) (m : Machine) : Type 0 where
   pub checked : (a : ℕ) → (traits_at p m.pc).goes_by ≡ Some a → is_indirect p.targets (reg m.registers a) ≡ true
 
 -- what acceptance says of a file's module
-pub record Accepted (file : List ℕ) : Type 0 where
+pub record Accepted (limits : Limits) (file : List ℕ) : Type 0 where
   pub file_rules : FileKept file
+  pub held : HeldBy limits file
   pub layout : LayoutKept (program_in file).layout
   pub sound : (i : ℕ) → Sound (program_in file).layout (shape_at (program_in file) i)
   pub target : (i : ℕ) (t : Target) → target_at (program_in file).targets i ≡ Some t → TargetFacts (length (program_in file).code) i t
   pub rules : (i : ℕ) → i < length (program_in file).code → IndexKept (program_in file) i
 
 -- an accepted file of bytes is such a file
-pub accepted_file : (file : List ℕ) → ((i : ℕ) → byte_at file i < 256) → first_broken file ≡ None → Accepted file
+pub accepted_file : (limits : Limits) (file : List ℕ) → ((i : ℕ) → byte_at file i < 256) → first_broken limits file ≡ None → Accepted limits file
 unfolding program_of
-accepted_file file bytes passes =
-    let kept : KeepsEveryRule file = (accepted_iff file).0 passes in
+accepted_file limits file bytes passes =
+    let kept : KeepsEveryRule limits file = (accepted_iff limits file).0 passes in
     record {
       file_rules = kept.file_rules;
+      held = kept.held;
       layout = kept.file_rules.holds.layout;
       sound = file_sound file bytes kept.file_rules;
       target = target_facts (module_placed kept.file_rules.holds);
@@ -78,7 +81,7 @@ passed_by : (test : Target → Bool) (found : Option Target) → any_of found te
 passed_by test None passed = absurd (false≢true passed)
 passed_by test (Some t) passed = (t, refl, passed)
 
-module _ {file : List ℕ} (accepted : Accepted file) where
+module _ {limits : Limits} {file : List ℕ} (accepted : Accepted limits file) where
   abbrev p : Program
   p = program_in file
 

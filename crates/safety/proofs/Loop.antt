@@ -16,6 +16,7 @@ use Rattle.model.specs.Words.{wrap}
 use Rattle.model.specs.Instructions.{carried, guarded}
 use Rattle.model.specs.Step.{in_region, in_zones, accessing, effect, addresses_from, settle, step_of, step}
 use Rattle.model.specs.File.{program_in}
+use Rattle.model.specs.Limits.{box_limits}
 use Rattle.model.specs.Judgement.{first_broken}
 use Rattle.model.specs.Run.{run, splice, Seen}
 use Rattle.model.specs.Walk.{Call, host_writes, walk_call, walk, seen_in}
@@ -31,7 +32,7 @@ pub loop_judged : LoopJudged
 unfolding loop verdict
 loop_judged = record { verdicts = refl }
 
-loop_accepted : first_broken loop ≡ None
+loop_accepted : first_broken box_limits loop ≡ None
 unfolding loop verdict
 loop_accepted = refl
 
@@ -55,7 +56,7 @@ zero_bytes n = record { long = length-replicate n 0; small = λ i. zero_at n i }
     zero_at (suc m) zero = omega arith
     zero_at (suc m) (suc i) = zero_at m i
 
-loop_fed : Fed loop start (calling 3 ∷ calling 2 ∷ [])
+loop_fed : Fed box_limits loop start (calling 3 ∷ calling 2 ∷ [])
 unfolding loop verdict are_bytes
 loop_fed = record {
   bytes = bytes_below loop refl;

@@ -12,19 +12,21 @@ use native.Mathlib.Decide.{dec_lt, dec_le}
 use lib.ListN.{length, get_or}
 use borrow.Author.Tests.{lt-ltb, le-leb, lt-leb}
 use Rattle.model.specs.declared.Ending.TheVariants.{Violated}
+use Rattle.model.specs.declared.Limits.{Limits}
 use Rattle.model.specs.declared.Machine.{Machine}
 use Rattle.model.specs.Obligations.{fault, first_fault}
 use Rattle.model.specs.Answers.{ended, steps_in}
 use Rattle.model.specs.Program.{Program}
 use Rattle.model.specs.Step.{Step}
-use Rattle.model.specs.File.{code_in, instruction_count, layout_in, readable, program_of, program_in}
-use Rattle.model.specs.Rules.{FileKept, Runnable}
+use Rattle.model.specs.File.{code_in, instruction_count, layout_in, program_of, program_in}
+use Rattle.model.specs.Limits.{loadable}
+use Rattle.model.specs.Rules.{FileKept, HeldBy, Runnable}
 use Rattle.model.specs.Run.{Run, run, stretch, splice, unchanged, finished, runnable, run_on}
 use Rattle.model.specs.Safety.{Bytes, StepSafe, InRegionOf, MemoryOf}
 use Rattle.model.specs.Walk.{Call, Walked, host_writes, walked_run, walked_refusal, walk_call}
 use Rattle.model.proofs.Tests.{cond_true, cond_false}
 use Rattle.model.proofs.Faults.{append_faultless}
-use Rattle.model.proofs.Accepted.{readable_iff}
+use Rattle.model.proofs.Accepted.{kept_iff}
 use Rattle.model.proofs.Memory.{splice-length, splice_below, splice_above, stretch-splice, splice-splice}
 use Rattle.model.proofs.Targets.{code_length}
 use Rattle.model.proofs.JoiningCalls.{run_on_runs}
@@ -37,10 +39,10 @@ pub record Framed (p : Program) (before : List ℕ) (c : Call) (now : List ℕ) 
   pub outside : (at : ℕ) → (InRegionOf p (length before) c at → ⊥) → get_or now at 0 ≡ get_or before at 0
 
 -- what holds of one call
-pub record CallKept (file : List ℕ) (m : Machine) (before : List ℕ) (c : Call) (w : Walked) : Type 0 where
+pub record CallKept (limits : Limits) (file : List ℕ) (m : Machine) (before : List ℕ) (c : Call) (w : Walked) : Type 0 where
   pub call : w.call ≡ c
   pub starts : w.before ≡ before
-  pub answer : run_on file m (host_writes (program_in file) before c) c.offset c.budget ≡ w.seen
+  pub answer : run_on limits file m (host_writes (program_in file) before c) c.offset c.budget ≡ w.seen
   pub invariant : Invariant (program_in file) w.seen.machine
   pub unviolated : (n : ℕ) → w.seen.report ≡ ended Violated n → ⊥
   pub counts : steps_in w.seen.report ≡ length w.log
@@ -55,14 +57,14 @@ size_in file = refl
 -- ---- a call that has no region
 
 -- the refusal of a run that only lacks its region
-no_room : (file : List ℕ) (m : Machine) (memory : List ℕ) (offset : ℕ) → FileKept file → m.pc < instruction_count (code_in file)
-    → length memory < offset + (layout_in file).size → first_fault (runnable file m memory offset) ≡ Some (fault 15 0)
+no_room : (limits : Limits) (file : List ℕ) (m : Machine) (memory : List ℕ) (offset : ℕ) → FileKept file → HeldBy limits file → m.pc < instruction_count (code_in file)
+    → length memory < offset + (layout_in file).size → first_fault (runnable limits file m memory offset) ≡ Some (fault 15 0)
 unfolding runnable first_fault
-no_room file m memory offset kept inside short =
-    append_faultless (readable file) _ ((readable_iff file).1 kept)
+no_room limits file m memory offset kept held inside short =
+    append_faultless (loadable limits file) _ ((kept_iff limits file).1 (kept, held))
     ∙ rw (lt-ltb _ _ inside, lt-leb _ _ short)
 
-module _ {file : List ℕ} (accepted : Accepted file) {m : Machine} (invariant : Invariant (program_in file) m)
+module _ {limits : Limits} {file : List ℕ} (accepted : Accepted limits file) {m : Machine} (invariant : Invariant (program_in file) m)
     (before : List ℕ) (c : Call) where
   abbrev p : Program
   p = program_in file
@@ -86,12 +88,12 @@ module _ {file : List ℕ} (accepted : Accepted file) {m : Machine} (invariant :
     unfolding host_writes
     nothing_written = cond_false _ _ _ (lt-leb _ _ short)
 
-    answered_refusal : run_on file m written c.offset c.budget ≡ unchanged m before (fault 15 0)
+    answered_refusal : run_on limits file m written c.offset c.budget ≡ unchanged m before (fault 15 0)
     unfolding run_on
     answered_refusal =
-        rw (nothing_written, no_room file m before c.offset accepted.file_rules pc_inside (omega (arith, size_in file)))
+        rw (nothing_written, no_room limits file m before c.offset accepted.file_rules accepted.held pc_inside (omega (arith, size_in file)))
 
-    refusal_kept : CallKept file m before c (walked_refusal c m before)
+    refusal_kept : CallKept limits file m before c (walked_refusal c m before)
     refusal_kept = record {
       call = refl;
       starts = refl;
@@ -142,16 +144,17 @@ module _ {file : List ℕ} (accepted : Accepted file) {m : Machine} (invariant :
     unfolding walk_call
     runs = cond_true _ _ _ (le-leb _ _ fits)
 
-    asked : Runnable file m written c.offset
+    asked : Runnable limits file m written c.offset
     asked = record {
       file_rules = accepted.file_rules;
+      held = accepted.held;
       pc_inside = pc_inside;
       fits = omega (arith, size_in file, ap length host_splices, splice-length c.offset size before fits c.bytes bytes.long);
     }
 
-    answered_run : run_on file m written c.offset c.budget ≡ finished c.offset size written made
+    answered_run : run_on limits file m written c.offset c.budget ≡ finished c.offset size written made
     unfolding program_of
-    answered_run = run_on_runs file m written c.offset c.budget asked
+    answered_run = run_on_runs limits file m written c.offset c.budget asked
 
     -- what the host wrote to the region is written over
     written_over : (later : List ℕ) → splice c.offset size written later ≡ splice c.offset size before later
@@ -161,7 +164,7 @@ module _ {file : List ℕ} (accepted : Accepted file) {m : Machine} (invariant :
     of_run now (inl (s, logged, is)) = rw is (splice_framed s.region (made_kept.steps s logged).bytes)
     of_run now (inr is) = rw (is, written_over) (splice_framed made.region made_kept.bytes)
 
-    run_call_kept : CallKept file m before c (walked_run c size before written made)
+    run_call_kept : CallKept limits file m before c (walked_run c size before written made)
     run_call_kept = record {
       call = refl;
       starts = refl;
@@ -174,10 +177,10 @@ module _ {file : List ℕ} (accepted : Accepted file) {m : Machine} (invariant :
     }
 
   -- one call of the walk
-  pub call_kept : Bytes size c.bytes → CallKept file m before c (walk_call p m before c)
+  pub call_kept : Bytes size c.bytes → CallKept limits file m before c (walk_call p m before c)
   call_kept bytes = fits_or_not (dec_le (c.offset + size) (length before))
     where
-      fits_or_not : Dec (c.offset + size ≤ length before) → CallKept file m before c (walk_call p m before c)
+      fits_or_not : Dec (c.offset + size ≤ length before) → CallKept limits file m before c (walk_call p m before c)
       fits_or_not (yes fits) = rw (runs bytes fits) (run_call_kept bytes fits)
       fits_or_not (no too_long) =
           let short : length before < c.offset + size = omega arith in

@@ -9,6 +9,7 @@ use Rattle.std.specs.Prelude.{Option, None, Some}
 use native.Mathlib.Omega.{arith}
 use Rattle.model.specs.declared.Ending.{Ending}
 use Rattle.model.specs.declared.Ending.TheVariants.{Violated, OutOfBudget}
+use Rattle.model.specs.declared.Limits.{Limits}
 use Rattle.model.specs.declared.Machine.{Machine}
 use Rattle.model.specs.Program.{Program}
 use Rattle.model.specs.Step.{Step, step}
@@ -45,7 +46,7 @@ out_of_budget : OutOfBudget ≡ Violated → ⊥
 out_of_budget same = let impossible : ◌≡◌ {A = ℕ} 0 1 = cc in omega arith
 
 -- a run keeps the invariant, each of its steps is safe, and it does not end by straying
-pub run_kept : {file : List ℕ} → Accepted file → (budget : ℕ) (m : Machine) (bs : List ℕ) → Invariant (program_in file) m
+pub run_kept : {limits : Limits} {file : List ℕ} → Accepted limits file → (budget : ℕ) (m : Machine) (bs : List ℕ) → Invariant (program_in file) m
     → Bytes (program_in file).layout.size bs → RunKept (program_in file) (run (program_in file) budget m bs)
 unfolding run
 run_kept accepted zero m bs invariant bytes =

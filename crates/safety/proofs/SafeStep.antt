@@ -13,6 +13,7 @@ use lib.ListN.{length}
 use borrow.Author.Tests.{ltb-false}
 use Rattle.model.specs.declared.Ending.TheVariants.{Violated}
 use Rattle.model.specs.declared.Layout.{Layout}
+use Rattle.model.specs.declared.Limits.{Limits}
 use Rattle.model.specs.declared.Machine.{Machine}
 use Rattle.model.specs.declared.Ranges.{Ranges}
 use Rattle.model.specs.Program.{Program, is_target, is_indirect}
@@ -64,7 +65,7 @@ module _ {l : Layout} (kept : LayoutKept l) {k : Ranges} {rs : List ℕ} (within
 not_ended : None ≡ Some Violated → ⊥
 not_ended same = let impossible : ◌≡◌ {A = ℕ} 0 1 = cc in omega arith
 
-module _ {file : List ℕ} (accepted : Accepted file) {m : Machine} {bs : List ℕ} (invariant : Invariant (program_in file) m)
+module _ {limits : Limits} {file : List ℕ} (accepted : Accepted limits file) {m : Machine} {bs : List ℕ} (invariant : Invariant (program_in file) m)
     (bytes : Bytes (program_in file).layout.size bs) where
   abbrev p : Program
   p = program_in file

@@ -7,6 +7,7 @@ use mathlib.Core.List.Memᴰ
 use mathlib.Core.List.{List, ◌∷◌, Memᴰ}
 use native.Mathlib.Omega.{arith}
 use lib.ListN.{length-append}
+use Rattle.model.specs.declared.Limits.{Limits}
 use Rattle.model.specs.declared.Machine.{Machine}
 use Rattle.model.specs.Program.{Program}
 use Rattle.model.specs.File.{program_in}
@@ -16,7 +17,7 @@ use Rattle.model.specs.Safety.{Bytes, CallSafe, Safe, Safety}
 use Rattle.safety.proofs.Invariant.{Invariant, Accepted, accepted_file, claim_kept, at_indirect}
 use Rattle.safety.proofs.SafeCalls.{Framed, CallKept, call_kept}
 
-module _ {file : List ℕ} (accepted : Accepted file) where
+module _ {limits : Limits} {file : List ℕ} (accepted : Accepted limits file) where
   abbrev p : Program
   p = program_in file
 
@@ -25,7 +26,7 @@ module _ {file : List ℕ} (accepted : Accepted file) where
   AllWritten calls = (c : Call) → Memᴰ c calls → Bytes p.layout.size c.bytes
 
   -- the first call of a list
-  first_safe : {m : Machine} {start : List ℕ} {c : Call} (cs : List Call) {w : Walked} → CallKept file m start c w
+  first_safe : {m : Machine} {start : List ℕ} {c : Call} (cs : List Call) {w : Walked} → CallKept limits file m start c w
       → CallSafe p start (c ∷ cs) w
   first_safe {c = c} cs kept = record {
     steps = kept.steps;
@@ -50,7 +51,7 @@ module _ {file : List ℕ} (accepted : Accepted file) where
 
   -- the first call and those after it
   all_safe : {m : Machine} {start : List ℕ} {c : Call} {cs : List Call} {ss : List Seen} → Invariant p m
-      → CallKept file m start c (walk_call p m start c)
+      → CallKept limits file m start c (walk_call p m start c)
       → Safe p (walk_call p m start c).seen.machine (walk_call p m start c).seen.memory cs ss
       → Safe p m start (c ∷ cs) ((walk_call p m start c).seen ∷ ss)
   unfolding walk seen_in log_in total_steps
@@ -69,7 +70,7 @@ module _ {file : List ℕ} (accepted : Accepted file) where
 
   -- what the calls answered and left, from a machine with the invariant
   pub calls_safe : {m : Machine} {start : List ℕ} {calls : List Call} {seen : List Seen} → Invariant p m → AllWritten calls
-      → Called file m start calls seen → Safe p m start calls seen
+      → Called limits file m start calls seen → Safe p m start calls seen
   unfolding walk seen_in log_in total_steps
   calls_safe invariant bytes done = record {
     answers = refl;
@@ -86,7 +87,7 @@ module _ {file : List ℕ} (accepted : Accepted file) where
 -- the whole list's claim
 pub safety : Safety
 safety = record {
-  safe = λ file m start calls seen fed called.
-      let accepted : Accepted file = accepted_file file fed.bytes fed.accepted in
+  safe = λ limits file m start calls seen fed called.
+      let accepted : Accepted limits file = accepted_file limits file fed.bytes fed.accepted in
       calls_safe accepted (at_indirect accepted m.pc m.registers fed.at_indirect fed.registers) fed.written called;
 }

@@ -1,4 +1,4 @@
-// The public entry: a module's bytes to a verdict.
+// The public entry: a device's limits and a module's bytes to a verdict.
 ghost use Rattle.std.specs.Prelude.{◌≡◌};
 ghost use Rattle.model.specs.Obligations.{first_fault};
 ghost use Rattle.model.specs.Answers.{judgement_of};
@@ -9,7 +9,7 @@ ghost use Rattle.reader.specs.Readings.{program};
 
 use crate::rules::{self, Place};
 use lookup::{GROUPS, Indexed};
-use model::{Layout, Range, Refusal, Rule, Verdict};
+use model::{Layout, Limits, Range, Refusal, Rule, Verdict};
 use ranges::{edges, knowledge};
 use reader::{decode, read, target};
 use words::arithmetic;
@@ -60,11 +60,12 @@ fn check_code(indexed: &Indexed) -> Result<(), Refusal>
     Ok(())
 }
 
-// The verdict on a module's bytes: accepted, with the counts of instructions and targets, or the first of refusals 1 to 13.
-pub fn verify(file: &[u8]) -> Verdict
-    ensures { judgement_of result ≡ judgement file.now }
+// A device's verdict on a module's bytes: accepted, with the counts of instructions and targets, or the first of refusals 1 to 7, 17 and
+// 8 to 13.
+pub fn verify(limits: Limits, file: &[u8]) -> Verdict
+    ensures { judgement_of result ≡ judgement limits file.now }
 {
-    let module = read::read(file)?;
+    let module = read::load(limits, file)?;
     let mut bits = [0; GROUPS];
     let mut counts = [0; GROUPS];
     check_code(&Indexed::of(module, &mut bits, &mut counts))?;

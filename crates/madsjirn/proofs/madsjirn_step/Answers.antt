@@ -3,4 +3,4 @@ use Rattle.madsjirn.proofs.Hosting.{leaves}
 use Rattle.madsjirn.proofs.madsjirn_step.Goals as goal
 
 pub returns : goal.returns
-returns c = leaves _ _ _ _ _ _ _ _ _ c.step.ensures c.from.ensures
+returns c = leaves _ _ _ _ _ _ _ _ _ _ c.step.ensures c.from.ensures

@@ -1,6 +1,6 @@
 -- A file with other claims over those of its direct targets, whatever they are: the sweeps can still start from it, the same is worked
 -- out, and so the finished file is the same. Assumes nothing.
-use Prim.Native.Nat.{ℕ, zero, suc}
+use Prim.Native.Nat.{ℕ, zero, suc, ◌/◌}
 use mathlib.Core.Path.{◌≡◌, refl, sym, ap, ◌∙◌}
 use mathlib.Core.Bool.{Bool, true}
 use mathlib.Core.List.{List, ◌++◌, map, map-map}
@@ -10,14 +10,14 @@ use lib.ListN.{length}
 use Rattle.model.specs.declared.Layout.{Layout}
 use Rattle.model.specs.declared.Target.{Target}
 use Rattle.model.specs.Program.{Program}
-use Rattle.model.specs.File.{code_in, targets_in, target_count, layout_in, tabulate, target_kind, claim_in, target_in, target_row_in, program_of, program_in}
+use Rattle.model.specs.File.{code_in, targets_in, instruction_count, target_count, layout_in, tabulate, target_kind, claim_in, target_in, target_row_in, program_of, program_in}
 use Rattle.model.specs.Rules.{TargetPlaced, ModulePlaced, FilePlaced}
 use Rattle.model.specs.Claims.{Entry, WorkedOut, begun, finished, with_claims, write_claims, claimed, finished_file}
 use Rattle.model.proofs.Tabulate.{map-tabulate}
 use Rattle.model.proofs.Stretches.{targets_rest}
 use Rattle.model.proofs.Claims.Independent.{Alike, AllAlike, ignores_inner, begins_again}
 use Rattle.model.proofs.Claims.AllClaims.{kinds, claims_length, claims_head, claims_kept, claims_over}
-use Rattle.model.proofs.Claims.Exchanged.{front, front_same, targets_are, exchanged_program, exchanged_holds}
+use Rattle.model.proofs.Claims.Exchanged.{front, same_code, front_same, targets_are, exchanged_program, exchanged_holds}
 
 -- ---- the module
 
@@ -112,6 +112,14 @@ module _ (file : List ℕ) (placed : FilePlaced file) (ts : List Target) (same :
 
   pub claimed_placed : FilePlaced (claimed ts file)
   claimed_placed = rw (claimed_is file placed ts) exchanged_placed
+
+  -- it has as many instructions and targets as before
+  pub same_counts : (instruction_count (code_in (claimed ts file)) ≡ instruction_count (code_in file))
+      × (target_count (targets_in (claimed ts file)) ≡ target_count (targets_in file))
+  same_counts = rw (claimed_is file placed ts) (
+    ap instruction_count (same_code file placed after as_long),
+    ap target_count (targets_are file placed after as_long) ∙ ap (λ (n : ℕ). n / 68) as_long,
+  )
 
   -- other claims over these are as over those that came in
   claimed_over : (ts' : List Target) → kinds ts' ≡ kinds ts → claimed ts' (claimed ts file) ≡ claimed ts' file

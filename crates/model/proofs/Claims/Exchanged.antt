@@ -69,7 +69,7 @@ module _ {Good : ℕ → (ℕ → TargetRow) → ℕ → Type 0} (file : List �
   same_layout : layout_in other ≡ layout_in file
   same_layout = ap layout_of (same_value 0 1 layout_listed (omega (arith, kept.layout_field.listed)) kept.layout_field)
 
-  same_code : code_in other ≡ code_in file
+  pub same_code : code_in (front file ++ targets) ≡ code_in file
   same_code = same_value code_start 2 code_listed (omega arith) kept.code_field
 
   same_targets_at : targets_at other ≡ targets_at file

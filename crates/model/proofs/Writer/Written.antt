@@ -1,17 +1,19 @@
 -- Each set of tables that keeps the rules has one file, it gives back those tables, and it is judged as they are. Assumes nothing.
 use Prim.Native.Nat.{ℕ}
 use mathlib.Core.Path.{◌≡◌, refl, sym, ap, ◌∙◌}
-use mathlib.Core.List.{List}
+use mathlib.Core.List.{List, ◌++◌}
 use Rattle.std.specs.Prelude.{Option, None, Some}
 use lib.ListN.{length}
+use Rattle.model.specs.declared.Limits.{Limits}
 use Rattle.model.specs.Obligations.{Fault, first_fault}
 use Rattle.model.specs.Answers.{accepted}
 use Rattle.model.specs.File.{code_in, targets_in, instruction_count, target_count, readable, program_in}
+use Rattle.model.specs.Limits.{limit_rules, loadable_by}
 use Rattle.model.specs.Judgement.{verified, obligations, first_broken, concluded, judgement}
 use Rattle.model.specs.Rules.{FileKept}
 use Rattle.model.specs.Writer.{Tables, program_from, tables_in, file_of, tables_owed, concluded_of, tables_judged}
 use Rattle.model.specs.Promises.{AreBytes, AreTables, FilesWritten}
-use Rattle.model.proofs.Faults.{append_faultless}
+use Rattle.model.proofs.Faults.{append_alike, append_faultless}
 use Rattle.model.proofs.Accepted.{readable_iff}
 use Rattle.model.proofs.Writer.Kept.{owed_iff}
 use Rattle.model.proofs.Writer.Read.{rows_counted, targets_counted, program_read, fields_kept, tables_kept, file_kept, tables_words}
@@ -25,19 +27,19 @@ module _ (t : Tables) (are : AreTables t) (owed : first_fault (tables_owed t) �
       let read = (file_iff (file_of t) (file_bytes t) t are kept).0 refl in
       (file_bytes t, file_kept (file_of t) read.0 (rw read.1 kept), read.1, program_read (file_of t) ∙ ap program_from read.1)
 
-  pub judged : judgement (file_of t) ≡ tables_judged t
-  unfolding judgement first_broken obligations tables_judged
-  judged =
+  pub judged : (limits : Limits) → judgement limits (file_of t) ≡ tables_judged limits t
+  unfolding judgement first_broken obligations loadable_by tables_judged
+  judged limits =
       let written = some_file in
-      rw (
-        append_faultless (readable (file_of t)) (verified (program_in (file_of t))) ((readable_iff (file_of t)).1 written.1),
-        append_faultless (tables_owed t) (verified (program_from t)) owed,
-        written.3,
-      ) (
-      same_answer (first_fault (verified (program_from t)))
-      (sym (rows_counted (file_of t)) ∙ ap (λ (u : Tables). length u.instructions) written.2)
-      (sym (targets_counted (file_of t)) ∙ ap (λ (u : Tables). length u.targets) written.2)
-      )
+      let n : instruction_count (code_in (file_of t)) ≡ length t.instructions =
+      sym (rows_counted (file_of t)) ∙ ap (λ (u : Tables). length u.instructions) written.2 in
+      let k : target_count (targets_in (file_of t)) ≡ length t.targets =
+      sym (targets_counted (file_of t)) ∙ ap (λ (u : Tables). length u.targets) written.2 in
+      ap (concluded (file_of t))
+      (append_alike _ _ _ (append_faultless (readable (file_of t)) _ ((readable_iff (file_of t)).1 written.1))
+      ∙ (λ i. first_fault (limit_rules limits (n i) (k i) ++ verified (written.3 i)))
+      ∙ sym (append_faultless (tables_owed t) _ owed))
+      ∙ same_answer _ n k
     where
       same_answer : (found : Option Fault)
           → instruction_count (code_in (file_of t)) ≡ length t.instructions → target_count (targets_in (file_of t)) ≡ length t.targets
@@ -64,4 +66,4 @@ one_program file other bytes bytes' kept kept' same =
     sym own.2 ∙ ap file_of tables ∙ others.2
 
 pub files_written : FilesWritten
-files_written = record { some_file = some_file; one_file = one_file; one_program = one_program; judged = judged }
+files_written = record { some_file = some_file; one_file = one_file; one_program = one_program; judged = λ limits t are owed. judged t are owed limits }

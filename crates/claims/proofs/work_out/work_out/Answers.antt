@@ -7,7 +7,7 @@ use Rattle.model.specs.Promises.{AreBytes}
 use Rattle.model.proofs.Stretches.{value_bytes}
 use Rattle.reader.specs.Loading.{Loaded}
 use Rattle.reader.specs.Readings.{reading_of}
-use Rattle.reader.proofs.Passes.{ReadFacts, module_read, file_refused}
+use Rattle.reader.proofs.Passes.{ReadFacts, module_load, load_refused}
 use Rattle.claims.proofs.Finishing.{refused_early}
 use Rattle.claims.proofs.work_out.work_out.Goals as goal
 use Rattle.claims.proofs.work_out.work_out.Goals.{In_ok-module}
@@ -15,11 +15,11 @@ use Rattle.claims.proofs.work_out.work_out.Goals.{In_ok-module}
 pub returns-in_err-module : goal.returns-in_err-module
 returns-in_err-module c =
     let same : c.from_residual.result ≡ Err c.in_err-module.field-0.0 = search rules in
-    rw same (refused_early _ _ (file_refused false c.args.file.now (Err c.in_err-module.field-0.0) c.in_err-module.ensures.report _ refl))
+    rw same (refused_early _ _ _ (load_refused false c.args.file.now c.args.limits (Err c.in_err-module.field-0.0) c.in_err-module.ensures.report _ refl))
 
 module _ (c : In_ok-module) where
   facts : ReadFacts false c.args.file.now c.in_ok-module.module.layout c.in_ok-module.module.held.instructions c.in_ok-module.module.held.targets
-  facts = module_read false c.args.file.now (Ok c.in_ok-module.module) c.in_ok-module.ensures.report _ refl
+  facts = (module_load false c.args.file.now c.args.limits (Ok c.in_ok-module.module) c.in_ok-module.ensures.report _ refl).read
 
 pub slice_bounds-table-end : goal.slice_bounds-table-end
 slice_bounds-table-end c = (facts (goal.at.slice_bounds-table-end c).In_ok-module).loaded.k_most
