@@ -1,8 +1,8 @@
 /*
- * The members of the library's answers are those that the header names. Makes each of the five calls that take a module
- * on ones whose answers have different numbers in their members, and looks at every member by name: a library whose
- * structs have two members in another order gives wrong ones. Exits with 1 if any is wrong. For the sixth call, which
- * takes tables, tables.c does so.
+ * The members of the limits and of the library's answers are those that the header names. Makes each of the five calls
+ * that take a module on ones whose answers have different numbers in their members, and looks at every member by name:
+ * a library whose structs have two members in another order gives wrong ones. Exits with 1 if any is wrong. For the
+ * sixth call, which takes tables, tables.c does so.
  *
  * Where refusal is 0 the header says nothing of place, so it is looked at in refused calls only.
  */
@@ -12,6 +12,10 @@
 #include "file_builder.h"
 
 #include <string.h>
+
+ASSERT_MEMBER(madsjirn_limits, instructions, 0, 4);
+ASSERT_MEMBER(madsjirn_limits, targets, 4, 4);
+_Static_assert(sizeof(madsjirn_limits) == 8, "size of madsjirn_limits");
 
 ASSERT_MEMBER(madsjirn_machine, registers, 0, 32);
 ASSERT_MEMBER(madsjirn_machine, pc, 32, 2);
@@ -141,25 +145,69 @@ static void expect_verdict(const char *call, madsjirn_verdict verdict, uint32_t 
     EXPECT(call, verdict, targets, 0);
 }
 
+/* Limits of which one or both are below the module's counts, or the two are in the wrong order. */
+static const madsjirn_limits over[] = {
+    {INSTRUCTIONS - 1, TARGETS},
+    {INSTRUCTIONS, TARGETS - 1},
+    {INSTRUCTIONS - 1, TARGETS - 1},
+    {TARGETS, INSTRUCTIONS},
+    {0, UINT32_MAX},
+    {UINT32_MAX, 0},
+};
+enum { OVERS = sizeof over / sizeof over[0] };
+
+/* Limits that the module keeps. */
+static const madsjirn_limits within[] = {
+    {4096, 256},
+    {512, 32},
+    {INSTRUCTIONS, TARGETS},
+    {UINT32_MAX, TARGETS},
+    {INSTRUCTIONS, UINT32_MAX},
+};
+enum { WITHINS = sizeof within / sizeof within[0] };
+
+static void look_at_limits(void) {
+    const madsjirn_limits box = madsjirn_box();
+    EXPECT("madsjirn_box", box, instructions, 4096);
+    EXPECT("madsjirn_box", box, targets, 256);
+    const madsjirn_limits plate = madsjirn_plate();
+    EXPECT("madsjirn_plate", plate, instructions, 512);
+    EXPECT("madsjirn_plate", plate, targets, 32);
+}
+
 static void look_at_verify(void) {
     file_builder file = module_with(GUARD, GOOD_JUMP);
-    expect_accepted("madsjirn_verify, accepted", madsjirn_verify(file.bytes, file.length));
+    for (int i = 0; i < WITHINS; i++) {
+        expect_accepted("madsjirn_verify, accepted", madsjirn_verify(within[i], file.bytes, file.length));
+    }
+    for (int i = 0; i < OVERS; i++) {
+        expect_verdict("madsjirn_verify, over", madsjirn_verify(over[i], file.bytes, file.length), MADSJIRN_OVER_PLATE,
+                       0);
+    }
     file = module_with(GUARD, BAD_JUMP);
-    expect_verdict("madsjirn_verify, file refused", madsjirn_verify(file.bytes, file.length),
+    expect_verdict("madsjirn_verify, file refused", madsjirn_verify(over[0], file.bytes, file.length),
                    MADSJIRN_BAD_INSTRUCTION, 3);
     file = module_with(SMALL_GUARD, GOOD_JUMP);
-    expect_verdict("madsjirn_verify, code refused", madsjirn_verify(file.bytes, file.length), MADSJIRN_WILD_ACCESS,
-                   1);
+    expect_verdict("madsjirn_verify, code refused", madsjirn_verify(within[0], file.bytes, file.length),
+                   MADSJIRN_WILD_ACCESS, 1);
+    expect_verdict("madsjirn_verify, over and code bad", madsjirn_verify(over[0], file.bytes, file.length),
+                   MADSJIRN_OVER_PLATE, 0);
 }
 
 static void look_at_work_out(void) {
     file_builder file = module_with(GUARD, GOOD_JUMP);
-    expect_accepted("madsjirn_work_out, accepted", madsjirn_work_out(file.bytes, file.length));
+    for (int i = 0; i < OVERS; i++) {
+        expect_verdict("madsjirn_work_out, over", madsjirn_work_out(over[i], file.bytes, file.length),
+                       MADSJIRN_OVER_PLATE, 0);
+    }
+    for (int i = 0; i < WITHINS; i++) {
+        expect_accepted("madsjirn_work_out, accepted", madsjirn_work_out(within[i], file.bytes, file.length));
+    }
     file = module_with(GUARD, BAD_JUMP);
-    expect_verdict("madsjirn_work_out, file refused", madsjirn_work_out(file.bytes, file.length),
+    expect_verdict("madsjirn_work_out, file refused", madsjirn_work_out(over[0], file.bytes, file.length),
                    MADSJIRN_BAD_INSTRUCTION, 3);
     file = module_with(SMALL_GUARD, GOOD_JUMP);
-    expect_verdict("madsjirn_work_out, code refused", madsjirn_work_out(file.bytes, file.length),
+    expect_verdict("madsjirn_work_out, code refused", madsjirn_work_out(within[0], file.bytes, file.length),
                    MADSJIRN_WILD_ACCESS, 1);
 }
 
@@ -169,9 +217,9 @@ static void expect_made(const char *call, madsjirn_answer answer, uint32_t endin
     EXPECT(call, answer, steps, steps);
 }
 
-static void expect_refused(const char *call, madsjirn_answer answer) {
-    EXPECT(call, answer, refusal, MADSJIRN_BAD_INSTRUCTION);
-    EXPECT(call, answer, place, 3);
+static void expect_refused(const char *call, madsjirn_answer answer, uint32_t refusal, uint32_t place) {
+    EXPECT(call, answer, refusal, refusal);
+    EXPECT(call, answer, place, place);
     EXPECT(call, answer, ending, MADSJIRN_REFUSED);
     EXPECT(call, answer, steps, 0);
 }
@@ -188,7 +236,9 @@ static void look_at_loop(void) {
     due.registers[1] = (uint32_t)BASE + SIZE;
     due.pc = 1;
     memcpy(memory + OFFSET + SIZE - sizeof last_word, last_word, sizeof last_word);
-    expect_made(call, madsjirn_run(file.bytes, file.length, &machine, memory, MEMORY_LENGTH, OFFSET, UINT64_MAX),
+    expect_made(call,
+                madsjirn_run(madsjirn_box(), file.bytes, file.length, &machine, memory, MEMORY_LENGTH, OFFSET,
+                             UINT64_MAX),
                 MADSJIRN_TRAPPED, 3074);
     expect_machine(call, &machine, &due);
 }
@@ -202,7 +252,8 @@ static void look_at_sums(void) {
     for (int r = 0; r < 8; r++) {
         due.registers[r] += summand(r);
     }
-    expect_made(call, madsjirn_run(file.bytes, file.length, &machine, memory, MEMORY_LENGTH, OFFSET, 8),
+    expect_made(call,
+                madsjirn_run(madsjirn_plate(), file.bytes, file.length, &machine, memory, MEMORY_LENGTH, OFFSET, 8),
                 MADSJIRN_OUT_OF_BUDGET, 8);
     expect_machine(call, &machine, &due);
 }
@@ -215,25 +266,41 @@ static void look_at_steps(void) {
         madsjirn_machine machine = machine_at((uint16_t)(SUMS + r));
         madsjirn_machine due = machine_at((uint16_t)(SUMS + r + 1));
         due.registers[r] += summand(r);
-        expect_made(call, madsjirn_step(file.bytes, file.length, &machine, memory, MEMORY_LENGTH, OFFSET),
+        expect_made(call,
+                    madsjirn_step(within[2], file.bytes, file.length, &machine, memory, MEMORY_LENGTH, OFFSET),
                     MADSJIRN_OUT_OF_BUDGET, 1);
         expect_machine(call, &machine, &due);
     }
 }
 
 static void look_at_refused_runs(void) {
-    const file_builder file = module_with(GUARD, BAD_JUMP);
+    file_builder file = module_with(GUARD, BAD_JUMP);
     const madsjirn_machine before = machine_at(SUMS);
     madsjirn_machine machine = before;
     const char *call = "madsjirn_run, refused";
-    expect_refused(call, madsjirn_run(file.bytes, file.length, &machine, memory, MEMORY_LENGTH, OFFSET, 8));
+    expect_refused(call, madsjirn_run(over[0], file.bytes, file.length, &machine, memory, MEMORY_LENGTH, OFFSET, 8),
+                   MADSJIRN_BAD_INSTRUCTION, 3);
     expect_machine(call, &machine, &before);
     call = "madsjirn_step, refused";
-    expect_refused(call, madsjirn_step(file.bytes, file.length, &machine, memory, MEMORY_LENGTH, OFFSET));
+    expect_refused(call, madsjirn_step(over[0], file.bytes, file.length, &machine, memory, MEMORY_LENGTH, OFFSET),
+                   MADSJIRN_BAD_INSTRUCTION, 3);
     expect_machine(call, &machine, &before);
+
+    file = module_with(GUARD, GOOD_JUMP);
+    for (int i = 0; i < OVERS; i++) {
+        call = "madsjirn_run, over";
+        expect_refused(call, madsjirn_run(over[i], file.bytes, file.length, &machine, memory, MEMORY_LENGTH, OFFSET, 8),
+                       MADSJIRN_OVER_PLATE, 0);
+        expect_machine(call, &machine, &before);
+        call = "madsjirn_step, over";
+        expect_refused(call, madsjirn_step(over[i], file.bytes, file.length, &machine, memory, MEMORY_LENGTH, OFFSET),
+                       MADSJIRN_OVER_PLATE, 0);
+        expect_machine(call, &machine, &before);
+    }
 }
 
 int main(void) {
+    look_at_limits();
     look_at_read();
     look_at_verify();
     look_at_work_out();

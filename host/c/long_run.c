@@ -32,12 +32,13 @@ static file_builder counting_module(void) {
 
 int main(void) {
     const file_builder file = counting_module();
-    madsjirn_verdict verdict = madsjirn_verify(file.bytes, file.length);
+    madsjirn_verdict verdict = madsjirn_verify(madsjirn_box(), file.bytes, file.length);
     EXPECT("madsjirn_verify", verdict, refusal, MADSJIRN_ACCEPTED);
 
     madsjirn_machine machine = {{0}, 0};
     const clock_t begin = clock();
-    madsjirn_answer answer = madsjirn_run(file.bytes, file.length, &machine, region, SIZE, 0, BUDGET);
+    madsjirn_answer answer =
+        madsjirn_run(madsjirn_box(), file.bytes, file.length, &machine, region, SIZE, 0, BUDGET);
     const double seconds = (double)(clock() - begin) / CLOCKS_PER_SEC;
     printf("%" PRIu64 " steps of %" PRIu64 " in %.1f s, %.2f ns each; r0 %08" PRIx32 ", pc %u\n", answer.steps, BUDGET,
            seconds, seconds * 1e9 / (double)BUDGET, machine.registers[0], (unsigned)machine.pc);

@@ -1,6 +1,7 @@
 /*
- * Document 01's loop, from C: verifies it, runs it, steps it, shows two refusals, has its claims worked out, and writes
- * it from its tables. Prints what it found and exits with 1 if anything differs from what the documents say.
+ * Document 01's loop, from C: verifies it for the box and for the plate, runs it, steps it, shows refusals, has its
+ * claims worked out, and writes it from its tables. Prints what it found and exits with 1 if anything differs from what
+ * the documents say.
  */
 #include "madsjirn.h"
 
@@ -80,18 +81,38 @@ static void show_reading(const file_builder *file) {
                module.guard == GUARD && module.instructions == 4 && module.targets == 2,
            "readable, with the layout and counts that were written");
 
-    madsjirn_verdict verdict = madsjirn_verify(file->bytes, file->length);
+    madsjirn_verdict verdict = madsjirn_verify(madsjirn_box(), file->bytes, file->length);
     printf("verify: refusal %u, %u instructions, %u targets\n", (unsigned)verdict.refusal,
            (unsigned)verdict.instructions, (unsigned)verdict.targets);
     expect(verdict.refusal == MADSJIRN_ACCEPTED && verdict.instructions == 4 && verdict.targets == 2,
            "accepted 4 2");
 }
 
+/* One instruction more than the plate holds, and the loop, which is within both limits. */
+static void show_plate(const file_builder *file) {
+    static const madsjirn_instruction halts[513];
+    madsjirn_target target = {.index = 0, .kind = MADSJIRN_INDIRECT};
+    for (int r = 0; r < 8; r++) {
+        target.claim[r].highest = UINT32_MAX; /* anything */
+    }
+    uint8_t larger[21 + 513 * 8 + 68];
+    madsjirn_written written = madsjirn_write(BASE, SIZE, GUARD, halts, 513, &target, 1, larger, sizeof larger);
+    expect(written.refusal == MADSJIRN_ACCEPTED, "513 instructions are written");
+    madsjirn_verdict verdict = madsjirn_verify(madsjirn_plate(), larger, sizeof larger);
+    printf("verify for the plate, 513 instructions: refused %u %u\n", (unsigned)verdict.refusal,
+           (unsigned)verdict.place);
+    expect(verdict.refusal == MADSJIRN_OVER_PLATE && verdict.place == 0, "over plate at 0");
+    expect(madsjirn_verify(madsjirn_box(), larger, sizeof larger).refusal == MADSJIRN_UNREACHABLE,
+           "not so for the box, which judges the code");
+    expect(madsjirn_verify(madsjirn_plate(), file->bytes, file->length).refusal == MADSJIRN_ACCEPTED,
+           "the loop is accepted for the plate too");
+}
+
 static void show_run(const file_builder *file) {
     madsjirn_machine machine = {{0}, 0};
     fill_memory();
     madsjirn_answer answer =
-        madsjirn_run(file->bytes, file->length, &machine, memory, MEMORY_LENGTH, OFFSET, UINT64_MAX);
+        madsjirn_run(madsjirn_box(), file->bytes, file->length, &machine, memory, MEMORY_LENGTH, OFFSET, UINT64_MAX);
     printf("run: ending %u, %" PRIu64 " steps, pc %u, r1 %08x\n", (unsigned)answer.ending, answer.steps,
            (unsigned)machine.pc, (unsigned)machine.registers[1]);
     expect(answer.refusal == MADSJIRN_ACCEPTED && answer.ending == MADSJIRN_TRAPPED && answer.steps == 3074,
@@ -103,7 +124,8 @@ static void show_run(const file_builder *file) {
 static void show_step(const file_builder *file) {
     madsjirn_machine machine = {{0, 0x12345678}, 0};
     fill_memory();
-    madsjirn_answer answer = madsjirn_step(file->bytes, file->length, &machine, memory, MEMORY_LENGTH, OFFSET);
+    madsjirn_answer answer =
+        madsjirn_step(madsjirn_box(), file->bytes, file->length, &machine, memory, MEMORY_LENGTH, OFFSET);
     printf("step: ending %u, %" PRIu64 " steps, pc %u, r1 %08x\n", (unsigned)answer.ending, answer.steps,
            (unsigned)machine.pc, (unsigned)machine.registers[1]);
     expect(answer.refusal == MADSJIRN_ACCEPTED && answer.ending == MADSJIRN_OUT_OF_BUDGET && answer.steps == 1,
@@ -114,7 +136,7 @@ static void show_step(const file_builder *file) {
 
 static void show_refused_file(void) {
     const uint8_t nothing[1] = {0};
-    madsjirn_verdict verdict = madsjirn_verify(nothing, 0);
+    madsjirn_verdict verdict = madsjirn_verify(madsjirn_box(), nothing, 0);
     printf("verify of an empty file: refused %u %u\n", (unsigned)verdict.refusal, (unsigned)verdict.place);
     expect(verdict.refusal == MADSJIRN_TRUNCATED && verdict.place == 0 && verdict.instructions == 0 &&
                verdict.targets == 0,
@@ -126,7 +148,7 @@ static void show_refused_run(const file_builder *file, size_t offset) {
     madsjirn_machine machine = before;
     fill_memory();
     madsjirn_answer answer =
-        madsjirn_run(file->bytes, file->length, &machine, memory, MEMORY_LENGTH, offset, 100);
+        madsjirn_run(madsjirn_box(), file->bytes, file->length, &machine, memory, MEMORY_LENGTH, offset, 100);
     printf("run at offset %zu: refused %u %u\n", offset, (unsigned)answer.refusal, (unsigned)answer.place);
     expect(answer.refusal == MADSJIRN_NO_ROOM && answer.place == 0, "no room at 0");
     expect(answer.ending == MADSJIRN_REFUSED && answer.steps == 0, "ending refused, 0 steps");
@@ -140,21 +162,23 @@ static bool same_bytes(const file_builder *one, const file_builder *other) {
 /* A claim that is none, since its lowest value exceeds the highest: whoever built the file has no tool for claims. */
 static void show_claims(void) {
     file_builder file = loop_module(SMALL_GUARD, UINT32_MAX, 0);
-    expect(madsjirn_verify(file.bytes, file.length).refusal == MADSJIRN_BAD_TARGET, "refused with no claim for r1");
+    expect(madsjirn_verify(madsjirn_box(), file.bytes, file.length).refusal == MADSJIRN_BAD_TARGET,
+           "refused with no claim for r1");
 
     /* DB to DL + 1: after a load that is not trapped r1 is at most DL - 3. */
     const file_builder due = loop_module(SMALL_GUARD, BASE, (uint32_t)BASE + SIZE);
-    madsjirn_verdict verdict = madsjirn_work_out(file.bytes, file.length);
+    madsjirn_verdict verdict = madsjirn_work_out(madsjirn_box(), file.bytes, file.length);
     printf("work out: refusal %u, %u instructions, %u targets\n", (unsigned)verdict.refusal,
            (unsigned)verdict.instructions, (unsigned)verdict.targets);
     expect(verdict.refusal == MADSJIRN_ACCEPTED && verdict.instructions == 4 && verdict.targets == 2,
            "accepted 4 2");
     expect(same_bytes(&file, &due), "r1 is claimed from 20000000 to 20001000, all other bytes are as they were");
-    expect(madsjirn_verify(file.bytes, file.length).refusal == MADSJIRN_ACCEPTED, "accepted by verify too");
+    expect(madsjirn_verify(madsjirn_box(), file.bytes, file.length).refusal == MADSJIRN_ACCEPTED,
+           "accepted by verify too");
 
     file = loop_module(SMALL_GUARD - 1, UINT32_MAX, 0);
     const file_builder before = file;
-    verdict = madsjirn_work_out(file.bytes, file.length);
+    verdict = madsjirn_work_out(madsjirn_box(), file.bytes, file.length);
     printf("work out with a guard too small: refused %u %u\n", (unsigned)verdict.refusal, (unsigned)verdict.place);
     expect(verdict.refusal == MADSJIRN_WILD_ACCESS && verdict.place == 1, "wild access at 1");
     expect(same_bytes(&file, &before), "all bytes are as they were");
@@ -207,6 +231,7 @@ static void show_writing(const file_builder *file) {
 int main(void) {
     const file_builder file = loop_module(GUARD, BASE, (uint32_t)BASE + SIZE + 3); /* DB to DL + 4 */
     show_reading(&file);
+    show_plate(&file);
     show_run(&file);
     show_step(&file);
     show_refused_file();

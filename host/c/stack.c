@@ -73,13 +73,15 @@ static void make_call(void) {
         sink = madsjirn_read(job.file, job.length).refusal;
         break;
     case VERIFY:
-        sink = madsjirn_verify(job.file, job.length).refusal;
+        sink = madsjirn_verify(madsjirn_box(), job.file, job.length).refusal;
         break;
     case RUN:
-        sink = madsjirn_run(job.file, job.length, &job.machine, memory, sizeof memory, OFFSET, BUDGET).refusal;
+        sink = madsjirn_run(madsjirn_box(), job.file, job.length, &job.machine, memory, sizeof memory, OFFSET, BUDGET)
+                   .refusal;
         break;
     case STEP:
-        sink = madsjirn_step(job.file, job.length, &job.machine, memory, sizeof memory, OFFSET).refusal;
+        sink =
+            madsjirn_step(madsjirn_box(), job.file, job.length, &job.machine, memory, sizeof memory, OFFSET).refusal;
         break;
     case WRITE:
         sink = madsjirn_write(tables.base, tables.size, tables.guard, tables.instructions, tables.instruction_count,
@@ -87,7 +89,7 @@ static void make_call(void) {
                    .refusal;
         break;
     default:
-        sink = madsjirn_work_out(job.file, job.length).refusal;
+        sink = madsjirn_work_out(madsjirn_box(), job.file, job.length).refusal;
         break;
     }
 }

@@ -3,7 +3,7 @@
 use modules::encode::Module;
 use modules::samples::{self, TARGETS};
 use modules::tables;
-use sides::{Machine, Side, Tables};
+use sides::{Limits, Machine, Side, Tables};
 use std::collections::BTreeMap;
 use std::hint::black_box;
 
@@ -157,7 +157,7 @@ impl Bench {
             memories: [(); 2].map(|()| vec![0; MEMORY_LENGTH]),
         };
         for (name, file) in bench.files() {
-            if let Err(refused) = Side::Proved.verify(file) {
+            if let Err(refused) = Side::Proved.verify(Limits::BOX, file) {
                 panic!("the {name} module is refused: {refused:?}");
             }
         }
@@ -222,12 +222,14 @@ fn of(files: &mut Files, targets: usize) -> &mut Vec<u8> {
     files.get_mut(&targets).expect("one that is measured")
 }
 
-/// Does a piece of work and answers the instructions judged or written, or the steps made.
+/// Does a piece of work on the box and answers the instructions judged or written, or the steps made.
 fn do_once(side: Side, file: &mut [u8], tables: &Tables, memory: &mut [u8], work: Work) -> u64 {
+    // So that neither side is compiled for these alone.
+    let limits = black_box(Limits::BOX);
     match work {
         // The claims that the file has then are ignored the next time, so that each time is like the first.
         Work::ClaimsMixed | Work::ClaimsLargest | Work::ClaimsSlowest => {
-            let worked_out = side.work_out(black_box(file));
+            let worked_out = side.work_out(limits, black_box(file));
             black_box(worked_out).expect("the module is accepted");
             0
         }
@@ -237,7 +239,7 @@ fn do_once(side: Side, file: &mut [u8], tables: &Tables, memory: &mut [u8], work
             u64::from(instructions)
         }
         Work::Verify | Work::VerifyTargets(_) => {
-            let verified = side.verify(black_box(file));
+            let verified = side.verify(limits, black_box(file));
             let [instructions, _] = black_box(verified).expect("the module is accepted");
             u64::from(instructions)
         }
@@ -257,7 +259,8 @@ fn do_once(side: Side, file: &mut [u8], tables: &Tables, memory: &mut [u8], work
                 pc: black_box(0),
             };
             let (offset, budget) = (black_box(OFFSET), black_box(work.budget()));
-            let ran = side.run(black_box(file), &mut machine, memory, offset, budget);
+            let file = black_box(file);
+            let ran = side.run(limits, file, &mut machine, memory, offset, budget);
             black_box(&machine);
             let (_, steps) = black_box(ran).expect("the run is made");
             steps

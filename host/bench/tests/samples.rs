@@ -2,7 +2,7 @@
 
 use modules::encode::{op, Instruction, Module};
 use modules::samples::{branching, document_loop, largest, mixed, slowest, tour, TARGETS};
-use sides::{Machine, Side};
+use sides::{Limits, Machine, Side};
 use std::collections::BTreeSet;
 
 /// Every step of the first steps: from which index to which.
@@ -13,7 +13,7 @@ fn steps(side: Side, module: &Module, count: usize) -> BTreeSet<(usize, usize)> 
     let mut made = BTreeSet::new();
     for _ in 0..count {
         let from = usize::from(machine.pc);
-        let made_one = side.step(&file, &mut machine, &mut memory, 0);
+        let made_one = side.step(Limits::BOX, &file, &mut machine, &mut memory, 0);
         made_one.expect("the step is made");
         made.insert((from, usize::from(machine.pc)));
     }
@@ -24,7 +24,7 @@ fn steps(side: Side, module: &Module, count: usize) -> BTreeSet<(usize, usize)> 
 fn all_are_accepted() {
     for module in [document_loop(), largest(), mixed(), slowest()] {
         for side in Side::BOTH {
-            let verified = side.verify(&module.to_bytes());
+            let verified = side.verify(Limits::BOX, &module.to_bytes());
             verified.expect("the module is accepted");
         }
     }
@@ -36,7 +36,7 @@ fn the_largest_and_the_slowest_are_the_largest() {
         let file = module.to_bytes();
         assert_eq!(file.len(), 50_197);
         for side in Side::BOTH {
-            assert_eq!(side.verify(&file), Ok([4096, 256]));
+            assert_eq!(side.verify(Limits::BOX, &file), Ok([4096, 256]));
         }
     }
 }
@@ -71,7 +71,7 @@ fn those_by_targets_are_accepted_and_have_so_many() {
     for targets in TARGETS {
         for module in [branching(targets), tour(targets)] {
             for side in Side::BOTH {
-                let verified = side.verify(&module.to_bytes());
+                let verified = side.verify(Limits::BOX, &module.to_bytes());
                 assert_eq!(verified, Ok([4096, targets as u32]));
             }
         }

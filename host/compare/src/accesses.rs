@@ -4,7 +4,7 @@
 use modules::assembler::{halt, load, load_signed, store};
 use modules::encode::{op, Instruction, Layout, Module, Target};
 use sides::ending::{OUT_OF_BUDGET, TRAPPED, VIOLATED};
-use sides::{Machine, Side};
+use sides::{Limits, Machine, Side};
 use std::collections::BTreeMap;
 use std::fmt;
 
@@ -89,7 +89,8 @@ impl Access {
             code: code.to_vec(),
             targets: vec![Target::indirect(0)],
         };
-        let ran = side.run(&module.to_bytes(), &mut machine, &mut memory, OFFSET, 1);
+        let file = module.to_bytes();
+        let ran = side.run(Limits::BOX, &file, &mut machine, &mut memory, OFFSET, 1);
         match ran {
             Ok((ending, 1)) => Ok((ending, machine, memory)),
             _ => Err(format!("{self}\n{}: {ran:?}", side.name())),

@@ -1,7 +1,8 @@
 //! One generated file: what `read` and `verify` answer, what `work_out` makes of it, what `write` makes of its tables,
-//! and what is found of its targets.
+//! what is found of its targets, and what it is by limits other than the box's.
 
 use crate::difference::hexadecimal;
+use crate::limits::{not_over, Limited};
 use crate::lookups::Looked;
 use crate::signed::Seen;
 use crate::tally::Tally;
@@ -9,7 +10,7 @@ use crate::worked::Worked;
 use crate::written::Written;
 use modules::generate::{generate, Generated, Origin};
 use modules::random::Random;
-use sides::{verify_by_earlier_rule_n, Side, Verdict};
+use sides::{verify_by_earlier_rule_n, Limits, Side, Verdict};
 
 pub fn compare_file(seed: u64, case: u64, tally: &mut Tally) -> Result<(), String> {
     let mut random = Random::for_case(seed, case);
@@ -23,7 +24,9 @@ pub fn compare_file(seed: u64, case: u64, tally: &mut Tally) -> Result<(), Strin
 fn judge(generated: &Generated, random: &mut Random, tally: &mut Tally) -> Result<(), String> {
     let file = &generated.file;
     let read = same("read", Side::BOTH.map(|side| side.read(file)))?;
-    let verified = same("verify", Side::BOTH.map(|side| side.verify(file)))?;
+    let verified = Side::BOTH.map(|side| side.verify(Limits::BOX, file));
+    let verified = same("verify", verified)?;
+    not_over("verify", verified)?;
     let earlier = verify_by_earlier_rule_n(file);
     as_made(generated.origin.accepted(), verified)?;
     as_made(generated.origin.accepted_earlier(), earlier)
@@ -34,9 +37,11 @@ fn judge(generated: &Generated, random: &mut Random, tally: &mut Tally) -> Resul
     }
     let worked = Worked::of(file, verified, random)?;
     let written = Written::of(file, read, random)?;
+    let limited = Limited::of(generated, read, verified, &worked.outcome, random)?;
     tally.count_module(generated.origin, read, verified);
     tally.count_worked(generated.origin, &worked);
     tally.count_written(generated.origin, &written);
+    tally.count_limited(generated.origin, &limited);
     tally.count_turn(generated.origin, verified, earlier);
     tally.count_signed(generated.origin, &seen);
     if verified.is_ok() {

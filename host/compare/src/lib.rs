@@ -1,11 +1,12 @@
 //! Compares the proved library with the hand-written one on generated modules and their tables, on lists of runs and on
-//! single accesses and lookups.
+//! single accesses and lookups: by the box's limits, and modules and runs by others too.
 
 mod accesses;
 mod by_origin;
 mod counts;
 mod difference;
 mod files;
+mod limits;
 mod lists;
 mod lookups;
 mod plan;
@@ -17,6 +18,7 @@ mod worked;
 mod written;
 
 pub use difference::Difference;
+pub use limits::Limited;
 pub use lookups::Looked;
 pub use signed::Seen;
 pub use tally::Tally;

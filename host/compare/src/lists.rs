@@ -2,13 +2,14 @@
 
 use crate::difference::hexadecimal;
 use crate::files::same;
+use crate::limits::{not_over, LimitedCall};
 use crate::plan::{self, Call};
 use crate::signed::without_sign;
 use crate::tally::Tally;
 use modules::generate::{generate_from, Generated, Origin};
 use modules::random::Random;
 use sides::ending::{OUT_OF_BUDGET, VIOLATED};
-use sides::{Machine, Ran, Side};
+use sides::{Limits, Machine, Ran, Side};
 use std::ops::Range;
 
 /// A run that ended within this many steps may be made again with a far larger budget.
@@ -18,7 +19,8 @@ pub fn compare_list(seed: u64, case: u64, tally: &mut Tally) -> Result<(), Strin
     // Other numbers than those of the modules' cases.
     let mut random = Random::for_case(seed ^ 0x6c69_7374, case);
     let origin = match random.below(56) {
-        0..=27 => Origin::Valid,
+        0..=25 => Origin::Valid,
+        26 | 27 => Origin::Plate,
         28..=40 => Origin::Near,
         41..=44 => Origin::Damaged,
         45 | 46 => Origin::Narrowed,
@@ -31,13 +33,13 @@ pub fn compare_list(seed: u64, case: u64, tally: &mut Tally) -> Result<(), Strin
     let mut generated = generate_from(origin, &mut random);
     if origin == Origin::Growing {
         // Mostly accepted then: what is promised of runs holds for these too.
-        let _ = Side::Proved.work_out(&mut generated.file);
+        let _ = Side::Proved.work_out(Limits::BOX, &mut generated.file);
     }
     let mut list = List::new(&mut random, &generated);
     tally.count_list();
     for number in 0..1 + random.below(8) {
         let call = list.next_call(&mut random);
-        list.make(call, tally).map_err(|what| {
+        list.make(call, &mut random, tally).map_err(|what| {
             let (origin, file) = (origin.name(), hexadecimal(&generated.file));
             format!("{what}\ncall {number}: {call:?}\norigin: {origin}\nfile: {file}")
         })?;
@@ -77,7 +79,7 @@ impl List<'_> {
         memory.fill_with(|| random.byte());
         let at_indirect = random.chance(70);
         let machine = plan::machine(random, &generated.module, at_indirect);
-        let accepted = Side::Proved.verify(&generated.file).is_ok();
+        let accepted = Side::Proved.verify(Limits::BOX, &generated.file).is_ok();
         // A damaged file may be accepted with other tables than those known here.
         let safe = accepted && at_indirect && generated.origin != Origin::Damaged;
         let state = State { machine, memory };
@@ -130,16 +132,25 @@ impl List<'_> {
             mut machine,
             mut memory,
         } = self.handwritten.clone();
-        let ran = Side::HandWritten.run(file, &mut machine, &mut memory, call.offset, KNOWN_TO_END);
+        let Call { offset, .. } = call;
+        let (machine, memory) = (&mut machine, &mut memory);
+        let ran = Side::HandWritten.run(Limits::BOX, file, machine, memory, offset, KNOWN_TO_END);
         !matches!(ran, Ok((OUT_OF_BUDGET, _)))
     }
 
-    fn make(&mut self, call: Call, tally: &mut Tally) -> Result<(), String> {
+    fn make(&mut self, call: Call, random: &mut Random, tally: &mut Tally) -> Result<(), String> {
         let before = self.proved.clone();
         let file = &self.generated.file;
-        let proved = make_on(Side::Proved, file, &mut self.proved, call);
-        let handwritten = make_on(Side::HandWritten, file, &mut self.handwritten, call);
+        let proved = make_on(Side::Proved, Limits::BOX, file, &mut self.proved, call);
+        let handwritten = make_on(
+            Side::HandWritten,
+            Limits::BOX,
+            file,
+            &mut self.handwritten,
+            call,
+        );
         let ran = same("the answer", [proved, handwritten])?;
+        not_over("the answer", ran)?;
         let machines = [self.proved.machine, self.handwritten.machine];
         same("the machine", machines)?;
         self.look_at_memory(&before.memory, call.offset)?;
@@ -147,7 +158,9 @@ impl List<'_> {
             return Err(format!("refused {ran:?}, but machine or memory changed"));
         }
         self.look_at_steps(ran, call)?;
+        let limited = self.make_by_limits(&before, ran, call, random)?;
         tally.count_call(call.budget, ran, self.safe && ran.is_ok());
+        tally.count_limited_call(self.generated.origin, &limited);
         for (width, file) in &self.without_sign {
             if self.ends_otherwise(file, &before, ran, call) {
                 tally.count_signed_run(*width);
@@ -156,12 +169,43 @@ impl List<'_> {
         Ok(())
     }
 
+    /// Makes a call by other limits, on copies of what was before. What is made leaves what the box's call left.
+    fn make_by_limits(
+        &self,
+        before: &State,
+        on_box: Ran,
+        call: Call,
+        random: &mut Random,
+    ) -> Result<LimitedCall, String> {
+        let Generated { file, .. } = self.generated;
+        LimitedCall::of(
+            self.generated,
+            call.by_step,
+            on_box,
+            random,
+            |limits, due| {
+                let left = if due.is_ok() { &self.proved } else { before };
+                for side in Side::BOTH {
+                    let mut state = before.clone();
+                    let ran = make_on(side, limits, file, &mut state, call);
+                    if ran != due || state != *left {
+                        let machine = state.machine;
+                        let name = side.name();
+                        return Err(format!("{name}: {ran:?}, {machine:?} and not {due:?}"));
+                    }
+                }
+                Ok(())
+            },
+        )
+    }
+
     /// Whether a call of another file has another outcome.
     fn ends_otherwise(&self, file: &[u8], before: &State, ran: Ran, mut call: Call) -> bool {
         let mut state = before.clone();
         // A run that ends by itself may not do so with another file.
         call.budget = call.budget.min(KNOWN_TO_END);
-        make_on(Side::HandWritten, file, &mut state, call) != ran || state != self.handwritten
+        let other = make_on(Side::HandWritten, Limits::BOX, file, &mut state, call);
+        other != ran || state != self.handwritten
     }
 
     /// The same bytes on both sides, and no other than before outside the region.
@@ -199,11 +243,11 @@ impl List<'_> {
     }
 }
 
-fn make_on(side: Side, file: &[u8], state: &mut State, call: Call) -> Ran {
+fn make_on(side: Side, limits: Limits, file: &[u8], state: &mut State, call: Call) -> Ran {
     let State { machine, memory } = state;
     if call.by_step {
-        side.step(file, machine, memory, call.offset)
+        side.step(limits, file, machine, memory, call.offset)
     } else {
-        side.run(file, machine, memory, call.offset, call.budget)
+        side.run(limits, file, machine, memory, call.offset, call.budget)
     }
 }

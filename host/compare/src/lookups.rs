@@ -8,7 +8,7 @@ use modules::assembler::{branch, check, jump, jumpr};
 use modules::encode::{code_bounds, op, test, Instruction, Module, Target};
 use modules::random::Random;
 use sides::ending::{DENIED, OUT_OF_BUDGET, VIOLATED};
-use sides::{Machine, Side};
+use sides::{Limits, Machine, Side};
 use std::collections::{BTreeMap, BTreeSet};
 use std::fmt;
 
@@ -192,7 +192,8 @@ impl Finder<'_> {
             ..self.module.code[place]
         };
         let file = self.with(place, named);
-        let verified = same("verify", Side::BOTH.map(|side| side.verify(&file)))?;
+        let verified = Side::BOTH.map(|side| side.verify(Limits::BOX, &file));
+        let verified = same("verify", verified)?;
         let as_listed = match (in_list(self.module, at), verified) {
             (Some(_), Ok(_)) => true,
             (Some(_), Err(refused)) => refused == (11, place as u32),
@@ -202,7 +203,7 @@ impl Finder<'_> {
             return Err(format!("verify: {verified:?} by the name at {place}"));
         }
         if self.random.chance(5) {
-            by_both(&file)?;
+            by_both(Limits::BOX, &file)?;
         }
         Ok(())
     }
@@ -227,7 +228,7 @@ impl Finder<'_> {
                 registers,
                 pc: place as u16,
             };
-            let ran = side.step(&file, &mut machine, &mut self.memory, 0);
+            let ran = side.step(Limits::BOX, &file, &mut machine, &mut self.memory, 0);
             if ran != Ok((ending, 1)) || machine != (Machine { registers, pc }) {
                 let name = side.name();
                 return Err(format!(

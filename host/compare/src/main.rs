@@ -1,7 +1,7 @@
 //! `compare [SEED [MODULES [LISTS]]]`: compares the proved library with the hand-written one, and fails if anything
 //! differs or if a refusal, an ending, a long budget, a wanted turn of a verdict, or a wanted kind of signed load, of
-//! claims that are worked out, of tables that are written, of targets that are found or of single accesses never
-//! occurred.
+//! claims that are worked out, of tables that are written, of targets that are found, of limits or of single accesses
+//! never occurred.
 
 use compare::{compare, SEED};
 use std::env;

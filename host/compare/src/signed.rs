@@ -5,7 +5,7 @@ use crate::by_origin::ByOrigin;
 use crate::counts::Counts;
 use modules::encode::{code_bounds, op, SIGN};
 use modules::generate::Origin;
-use sides::{Side, Verdict};
+use sides::{Limits, Side, Verdict};
 use std::fmt;
 
 /// The widths that carry the sign up.
@@ -116,7 +116,7 @@ impl Seen {
                     if number == 10 && is_load(&code[place as usize], width) {
                         kinds.push(Kind::Wild(width));
                     }
-                    if Side::HandWritten.verify(&changed).is_ok() {
+                    if Side::HandWritten.verify(Limits::BOX, &changed).is_ok() {
                         kinds.push(Kind::Turned(number, width));
                     }
                 }

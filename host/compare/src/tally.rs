@@ -1,9 +1,10 @@
 //! How often each refusal, each ending, a long budget, each turn of a verdict, each kind of signed load, of claims that
-//! are worked out, of tables that are written, of targets that are found and of single accesses occurred, so that
-//! nothing is believed compared that never happened.
+//! are worked out, of tables that are written, of targets that are found, of limits and of single accesses occurred, so
+//! that nothing is believed compared that never happened.
 
 use crate::accesses::Accesses;
 use crate::counts::Counts;
+use crate::limits::{Limited, LimitedCall, Limitings};
 use crate::lookups::{Looked, Lookups};
 use crate::shapes::Shapes;
 use crate::signed::{Seen, Signed};
@@ -26,8 +27,9 @@ pub struct Tally {
     writings: Writings,
     shapes: Shapes,
     lookups: Lookups,
+    limitings: Limitings,
     pub accesses: Accesses,
-    /// Refusals by number; 0 counts what was not refused.
+    /// Refusals on the box by number; 0 counts what was not refused.
     read: Counts,
     verify: Counts,
     work_out: Counts,
@@ -69,13 +71,23 @@ impl Tally {
 
     /// Counts what became of a file's claims.
     pub fn count_worked(&mut self, origin: Origin, worked: &Worked) {
-        self.work_out.count(number(worked.verdict.err()));
+        self.work_out.count(number(worked.outcome.verdict.err()));
         self.workings.count(origin, worked);
     }
 
     /// Counts what became of a file's tables.
     pub fn count_written(&mut self, origin: Origin, written: &Written) {
         self.writings.count(origin, written);
+    }
+
+    /// Counts what a file is by other limits.
+    pub fn count_limited(&mut self, origin: Origin, limited: &Limited) {
+        self.limitings.count(origin, limited);
+    }
+
+    /// Counts what a call is by other limits.
+    pub fn count_limited_call(&mut self, origin: Origin, call: &LimitedCall) {
+        self.limitings.count_call(origin, call);
     }
 
     /// Counts how an accepted file's targets stand.
@@ -105,7 +117,7 @@ impl Tally {
     }
 
     /// The refusals, endings, long budgets, turns, and kinds of signed loads, of claims worked out, of tables written,
-    /// of targets found and of accesses that never occurred.
+    /// of targets, of targets found, of limits and of accesses that never occurred.
     pub fn missing(&self) -> Vec<String> {
         let refusals = Rule::ALL.into_iter().filter(|rule| {
             let times = self.refusals(rule.number());
@@ -123,23 +135,27 @@ impl Tally {
             .chain(self.writings.missing())
             .chain(self.shapes.missing())
             .chain(self.lookups.missing())
+            .chain(self.limitings.missing())
             .chain(self.accesses.missing())
             .collect()
     }
 
-    /// The refusals of read, verify, work_out, write and run.
-    fn answers(&self) -> [&Counts; 5] {
+    /// The refusals of read and write, of verify, work_out and run on the box, and of these by other limits.
+    fn answers(&self) -> [&Counts; 8] {
         [
             &self.read,
+            &self.writings.refusals,
             &self.verify,
             &self.work_out,
-            &self.writings.refusals,
             &self.run,
+            &self.limitings.verify,
+            &self.limitings.work_out,
+            &self.limitings.run,
         ]
     }
 
     /// How often each of them answered a refusal.
-    fn refusals(&self, number: u32) -> [u64; 5] {
+    fn refusals(&self, number: u32) -> [u64; 8] {
         self.answers().map(|counts| counts.of(number))
     }
 
@@ -193,11 +209,18 @@ impl Tally {
     }
 
     fn write_refusals(&self, out: &mut fmt::Formatter<'_>) -> fmt::Result {
+        let box_and_others = format!("{:^29} {:^29}", "on the box", "by other limits");
         writeln!(
             out,
-            "{:<34} {:>9} {:>9} {:>9} {:>9} {:>9}",
-            "refusals", "read", "verify", "work out", "write", "run"
+            "{:<34} {:>9} {:>9} {box_and_others}",
+            "refusals", "", ""
         )?;
+        write!(out, "{:<34}", "")?;
+        let judging = ["verify", "work out", "run"];
+        for call in ["read", "write"].into_iter().chain([judging; 2].concat()) {
+            write!(out, " {call:>9}")?;
+        }
+        writeln!(out)?;
         for number in self.refusal_numbers() {
             write!(out, "  {number:>2} {:<29}", refusal_name(number))?;
             for times in self.refusals(number) {
@@ -244,6 +267,7 @@ impl fmt::Display for Tally {
         self.writings.fmt(out)?;
         self.shapes.fmt(out)?;
         self.lookups.fmt(out)?;
+        self.limitings.fmt(out)?;
         self.write_lists(out)?;
         self.signed.write_runs(out)?;
         self.accesses.fmt(out)?;

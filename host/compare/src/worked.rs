@@ -5,7 +5,7 @@ use crate::files::same;
 use modules::encode::{target_bounds, DIRECT};
 use modules::generate::{garbled_claim, Origin};
 use modules::random::Random;
-use sides::{sweeps, Side, Sweeps, Verdict};
+use sides::{sweeps, Limits, Side, Sweeps, Verdict};
 use std::fmt;
 
 /// What a module shows.
@@ -62,19 +62,19 @@ const WANTED: [Kind; 10] = [
     Kind::LaterTarget,
 ];
 
-/// The refusals that there are: 11 never occurs.
+/// The refusals that there are on the box: 11 never occurs, nor does 17.
 const REFUSALS: [u32; 12] = [1, 2, 3, 4, 5, 6, 7, 8, 9, 10, 12, 13];
 
 /// A file after its claims are worked out by both sides.
 pub struct Outcome {
-    verdict: Verdict,
-    file: Vec<u8>,
+    pub verdict: Verdict,
+    pub file: Vec<u8>,
 }
 
 /// Works out the claims by both: the same answer and the same bytes.
-pub fn by_both(file: &[u8]) -> Result<Outcome, String> {
+pub fn by_both(limits: Limits, file: &[u8]) -> Result<Outcome, String> {
     let mut files = [file.to_vec(), file.to_vec()];
-    let verdicts = Side::BOTH.map(|side| side.work_out(&mut files[side as usize]));
+    let verdicts = Side::BOTH.map(|side| side.work_out(limits, &mut files[side as usize]));
     let verdict = same("work_out", verdicts)?;
     let [file, handwritten] = files;
     let mut bytes = file.iter().zip(&handwritten);
@@ -95,7 +95,7 @@ fn direct_claims(file: &mut [u8]) -> impl Iterator<Item = &mut [u8]> {
 }
 
 /// The file with other claims.
-fn garbled(file: &[u8], random: &mut Random) -> Vec<u8> {
+pub fn garbled(file: &[u8], random: &mut Random) -> Vec<u8> {
     let mut file = file.to_vec();
     for claim in direct_claims(&mut file) {
         let words = garbled_claim(random).map(|(lowest, highest)| [lowest, highest]);
@@ -115,24 +115,23 @@ fn without_claims(file: &[u8]) -> Vec<u8> {
 
 /// What a file shows of the ticket.
 pub struct Worked {
-    pub verdict: Verdict,
+    pub outcome: Outcome,
     kinds: Vec<Kind>,
     /// The sweeps made, and the targets.
     sweeps: Option<(Sweeps, u32)>,
 }
 
 impl Worked {
-    /// Works out the claims of a file on which `verify` answers this, and looks whether all is as promised.
+    /// Works out the claims of a file on which the box's `verify` answers this, and looks whether all is as promised.
     pub fn of(file: &[u8], verified: Verdict, random: &mut Random) -> Result<Worked, String> {
-        let outcome = by_both(file)?;
-        let verdict = outcome.verdict;
+        let outcome = by_both(Limits::BOX, file)?;
         look_at(file, &outcome)?;
-        if !matches!(verdict, Err((1..=4, _))) {
+        if !matches!(outcome.verdict, Err((1..=4, _))) {
             look_at_other_claims(file, &outcome, random)?;
         }
         let mut worked = Worked {
-            verdict,
             kinds: kinds(file, &outcome, verified),
+            outcome,
             sweeps: None,
         };
         if let Ok(made) = sweeps(file) {
@@ -146,12 +145,12 @@ impl Worked {
         if made.made > most_sweeps(targets) {
             return Err(format!("{made:?} with {targets} targets"));
         }
-        match self.verdict {
+        match self.outcome.verdict {
             Ok(_) if made.unbounded > 0 => self.kinds.push(Kind::Unbounded),
             Err((10, _)) if made.unbounded > 0 => self.kinds.push(Kind::RefusedUnbounded),
             _ => {}
         }
-        if self.verdict.is_ok() && made.given > 0 {
+        if self.outcome.verdict.is_ok() && made.given > 0 {
             self.kinds.push(Kind::Given);
         }
         self.sweeps = Some((made, targets));
@@ -181,11 +180,11 @@ fn look_at(file: &[u8], outcome: &Outcome) -> Result<(), String> {
             Err("work_out: other bytes than claims changed".into())
         }
         Ok(_) => {
-            let verified = Side::BOTH.map(|side| side.verify(left));
+            let verified = Side::BOTH.map(|side| side.verify(Limits::BOX, left));
             if verified != [*verdict; 2] {
                 return Err(format!("work_out: {verdict:?}, then verify: {verified:?}"));
             }
-            let again = by_both(left)?;
+            let again = by_both(Limits::BOX, left)?;
             if again.verdict == *verdict && again.file == *left {
                 Ok(())
             } else {
@@ -198,7 +197,7 @@ fn look_at(file: &[u8], outcome: &Outcome) -> Result<(), String> {
 /// The outcome doesn't depend on the claims of direct targets.
 fn look_at_other_claims(file: &[u8], outcome: &Outcome, random: &mut Random) -> Result<(), String> {
     let garbled = garbled(file, random);
-    let other = by_both(&garbled)?;
+    let other = by_both(Limits::BOX, &garbled)?;
     let due = match outcome.verdict {
         Ok(_) => &outcome.file,
         Err(_) => &garbled,

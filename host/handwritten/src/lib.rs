@@ -72,6 +72,21 @@ pub struct TargetRow {
     pub claim: [[u32; 2]; 8],
 }
 
+/// How many instructions and targets a device holds.
+#[derive(Clone, Copy, Debug, PartialEq, Eq)]
+pub struct Limits {
+    pub instructions: u32,
+    pub targets: u32,
+}
+
+impl Limits {
+    /// Those of the box: as many as a file can have.
+    pub const BOX: Limits = Limits {
+        instructions: reader::MAX_INSTRUCTIONS as u32,
+        targets: reader::MAX_TARGETS as u32,
+    };
+}
+
 /// A module that the verifier accepts.
 #[derive(Clone, Copy, Debug, PartialEq, Eq)]
 pub struct Accepted {
@@ -129,41 +144,44 @@ pub fn read(file: &[u8]) -> Result<Module, Refusal> {
     })
 }
 
-/// Judges the file's form and its claims: refusals 1 to 13.
-pub fn verify(file: &[u8]) -> Result<Accepted, Refusal> {
-    judge::<false>(file)
+/// Judges the file's form, its counts for a device, and its claims: refusals 1 to 7, 17, and 8 to 13.
+pub fn verify(limits: Limits, file: &[u8]) -> Result<Accepted, Refusal> {
+    judge::<false>(limits, file)
 }
 
-/// Judges as [`verify`] does, but with rule N as it was before document 02's ticket 1. Kept for the comparison alone,
-/// which says how many modules' verdicts depend on the ticket: those must occur, or the new rule is not compared.
+/// Judges as [`verify`] does on the box, but with rule N as it was before document 02's ticket 1. Kept for the
+/// comparison alone, which says how many modules' verdicts depend on the ticket: those must occur, or the new rule is
+/// not compared.
 pub fn verify_by_earlier_rule_n(file: &[u8]) -> Result<Accepted, Refusal> {
-    judge::<true>(file)
+    judge::<true>(Limits::BOX, file)
 }
 
-fn judge<const EARLIER: bool>(file: &[u8]) -> Result<Accepted, Refusal> {
+fn judge<const EARLIER: bool>(limits: Limits, file: &[u8]) -> Result<Accepted, Refusal> {
     let parts = reader::parts::<true>(file)?;
+    parts.judge_counts(limits)?;
     verifier::verify::<EARLIER>(&parts)?;
     Ok(parts.accepted())
 }
 
 /// Works out the claims of the direct targets and writes them over those in the file, if it is accepted with them.
-/// Refusals 1 to 7, but for those claims, and then the verifier's; a refusal leaves the file as it was.
-pub fn work_out(file: &mut [u8]) -> Result<Accepted, Refusal> {
+/// Refusals 1 to 7, but for those claims, then 17, and then the verifier's; a refusal leaves the file as it was.
+pub fn work_out(limits: Limits, file: &mut [u8]) -> Result<Accepted, Refusal> {
     let mut claims = Claims::NONE;
     let parts = reader::parts::<false>(file)?;
+    parts.judge_counts(limits)?;
     claims.work_out(&parts);
     // The targets are the file's end.
     let targets = file.len() - parts.targets.as_flattened().len();
     claims.exchange(file[targets..].as_chunks_mut().0);
-    let judged = judge::<false>(file);
+    let judged = judge::<false>(limits, file);
     if judged.is_err() {
         claims.exchange(file[targets..].as_chunks_mut().0);
     }
     judged
 }
 
-/// What the sweeps of [`work_out`] come to, also where the verifier refuses what they lead to. Kept for the comparison
-/// alone, which says what kinds of growth occurred.
+/// What the sweeps of [`work_out`] come to on the box, also where the verifier refuses what they lead to. Kept for the
+/// comparison alone, which says what kinds of growth occurred.
 pub fn sweeps(file: &[u8]) -> Result<Sweeps, Refusal> {
     let mut claims = Claims::NONE;
     claims.work_out(&reader::parts::<false>(file)?);
@@ -182,26 +200,29 @@ pub fn write(
 }
 
 /// Steps the machine at most `budget` times, with the region at `offset` in `memory`.
-/// Refusals 1 to 7, 14 and 15; a refused run changes nothing.
+/// Refusals 1 to 7, 17, 14 and 15; a refused run changes nothing.
 pub fn run(
+    limits: Limits,
     file: &[u8],
     machine: &mut Machine,
     memory: &mut [u8],
     offset: usize,
     budget: u64,
 ) -> Result<Run, Refusal> {
-    let (parts, region) = prepare(file, machine, memory, offset)?;
+    let (parts, region) = prepare(limits, file, machine, memory, offset)?;
     Ok(machine::run(&parts, machine, region, budget))
 }
 
 /// The module's parts and its region, or the refusal of a run.
 fn prepare<'f, 'm>(
+    limits: Limits,
     file: &'f [u8],
     machine: &Machine,
     memory: &'m mut [u8],
     offset: usize,
 ) -> Result<(reader::Parts<'f>, &'m mut [u8]), Refusal> {
     let parts = reader::parts::<true>(file)?;
+    parts.judge_counts(limits)?;
     if usize::from(machine.pc) >= parts.code.len() {
         return Err(Refusal {
             number: 14,

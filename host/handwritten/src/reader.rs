@@ -2,7 +2,7 @@
 
 use crate::decoder::SIGN;
 use crate::ranges::{high, low, ANYTHING};
-use crate::{Accepted, Layout, Refusal};
+use crate::{Accepted, Layout, Limits, Refusal};
 
 pub(crate) const MAX_INSTRUCTIONS: usize = 4096;
 pub(crate) const MAX_TARGETS: usize = 256;
@@ -26,6 +26,18 @@ impl Parts<'_> {
             instructions: self.code.len() as u32,
             targets: self.targets.len() as u32,
         }
+    }
+
+    /// Refusal 17. Who calls this has judged the file's form.
+    pub fn judge_counts(&self, limits: Limits) -> Result<(), Refusal> {
+        let Accepted {
+            instructions,
+            targets,
+        } = self.accepted();
+        if instructions > limits.instructions || targets > limits.targets {
+            return Err(refusal(17, 0));
+        }
+        Ok(())
     }
 }
 

@@ -2,21 +2,23 @@
 //! safe: the guard zone stops it.
 
 use madsjirn::assembly::*;
-use madsjirn::{read, verify, write, Layout, Machine, Refusal, Target, Verified, LONGEST_FILE};
+use madsjirn::{
+    read, verify, write, Layout, Limits, Machine, Refusal, Target, Verified, LONGEST_FILE,
+};
 
 fn main() -> Result<(), Refusal> {
     let file = loop_file(256)?;
     println!("written: {} bytes", file.len());
     let Layout { base, size, guard } = read(&file)?.layout;
     println!("base {base:#x}, size {size}, guard {guard}");
-    let verified = verify(&file)?;
+    let verified = verify(Limits::BOX, &file)?;
     println!(
         "accepted {} {}",
         verified.instructions(),
         verified.targets()
     );
     run_to_its_end(verified, size as usize)?;
-    match verify(&loop_file(6)?) {
+    match verify(Limits::BOX, &loop_file(6)?) {
         Ok(_) => println!("a guard of 6 bytes: accepted"),
         Err(refusal) => println!("a guard of 6 bytes: {refusal}"),
     }

@@ -2,9 +2,10 @@
 
 use crate::answers::{Ending, Layout, Machine, Module, Run};
 use crate::ffi;
+use crate::limits::Limits;
 use crate::refusal::{Refusal, Rule};
 
-/// Reads a module: rules 1 to 7.
+/// Reads a module: rules 1 to 7. It knows no device, and the counts say which [`Limits`] the module keeps.
 ///
 /// ```
 /// let refusal = madsjirn::read(b"").unwrap_err();
@@ -39,15 +40,16 @@ pub fn read(file: &[u8]) -> Result<Module, Refusal> {
 
 /// Runs a module for at most `budget` steps. Its region is the layout's size bytes of `memory` from `offset` on.
 ///
-/// It changes the machine and bytes of the region, and no other byte. The module need not be accepted,
-/// only readable: refusals are 1 to 7, then 14 and 15. A refusal leaves machine and memory as they were.
+/// It changes the machine and bytes of the region, and no other byte. The module need not be accepted, only readable
+/// and within the limits: refusals are 1 to 7, then 17, then 14 and 15. A refusal leaves machine and memory as they
+/// were.
 /// For an accepted module there is [`Verified::run`](crate::Verified::run), with its promise.
 ///
 /// ```
-/// use madsjirn::{run, Machine};
+/// use madsjirn::{run, Limits, Machine};
 ///
 /// let mut machine = Machine::default();
-/// let refusal = run(b"no module", &mut machine, &mut [0; 300], 0, 1_000).unwrap_err();
+/// let refusal = run(Limits::BOX, b"no module", &mut machine, &mut [0; 300], 0, 1_000).unwrap_err();
 /// assert_eq!(refusal.to_string(), "refused 2 0: wrong tag");
 /// assert_eq!(machine, Machine::default());
 /// ```
@@ -56,13 +58,14 @@ pub fn read(file: &[u8]) -> Result<Module, Refusal> {
 ///
 /// If the library's answer is none that the C interface allows, which the proved library never gives.
 pub fn run(
+    limits: Limits,
     file: &[u8],
     machine: &mut Machine,
     memory: &mut [u8],
     offset: usize,
     budget: u64,
 ) -> Result<Run, Refusal> {
-    made(ffi::run(file, machine, memory, offset, budget))
+    made(ffi::run(limits, file, machine, memory, offset, budget))
 }
 
 /// Makes one step: a [`run`] with budget 1.
@@ -70,9 +73,9 @@ pub fn run(
 /// A step after which the run could go on answers [`Ending::OutOfBudget`].
 ///
 /// ```
-/// use madsjirn::{step, Machine};
+/// use madsjirn::{step, Limits, Machine};
 ///
-/// let refusal = step(&[2], &mut Machine::default(), &mut [], usize::MAX).unwrap_err();
+/// let refusal = step(Limits::PLATE, &[2], &mut Machine::default(), &mut [], usize::MAX).unwrap_err();
 /// assert_eq!(refusal.to_string(), "refused 1 0: truncated (short)");
 /// ```
 ///
@@ -80,12 +83,13 @@ pub fn run(
 ///
 /// If the library's answer is none that the C interface allows, which the proved library never gives.
 pub fn step(
+    limits: Limits,
     file: &[u8],
     machine: &mut Machine,
     memory: &mut [u8],
     offset: usize,
 ) -> Result<Run, Refusal> {
-    made(ffi::step(file, machine, memory, offset))
+    made(ffi::step(limits, file, machine, memory, offset))
 }
 
 fn made(answer: ffi::Answer) -> Result<Run, Refusal> {

@@ -1,6 +1,6 @@
 //! The C interface of the proved library, `include/madsjirn.h`. All of this package's `unsafe` is here.
 
-use crate::{Instruction, Layout, Machine, Target};
+use crate::{Instruction, Layout, Limits, Machine, Target};
 
 /// `MADSJIRN_REFUSED`: the ending of a run that was not made.
 pub(crate) const REFUSED: u32 = 5;
@@ -45,9 +45,10 @@ pub(crate) struct Written {
 
 extern "C" {
     fn madsjirn_read(file: *const u8, file_length: usize) -> Module;
-    fn madsjirn_verify(file: *const u8, file_length: usize) -> Verdict;
-    fn madsjirn_work_out(file: *mut u8, file_length: usize) -> Verdict;
+    fn madsjirn_verify(limits: Limits, file: *const u8, file_length: usize) -> Verdict;
+    fn madsjirn_work_out(limits: Limits, file: *mut u8, file_length: usize) -> Verdict;
     fn madsjirn_run(
+        limits: Limits,
         file: *const u8,
         file_length: usize,
         machine: *mut Machine,
@@ -57,6 +58,7 @@ extern "C" {
         budget: u64,
     ) -> Answer;
     fn madsjirn_step(
+        limits: Limits,
         file: *const u8,
         file_length: usize,
         machine: *mut Machine,
@@ -83,17 +85,18 @@ pub(crate) fn read(file: &[u8]) -> Module {
     unsafe { madsjirn_read(file.as_ptr(), file.len()) }
 }
 
-pub(crate) fn verify(file: &[u8]) -> Verdict {
-    // SAFETY: as for `read`.
-    unsafe { madsjirn_verify(file.as_ptr(), file.len()) }
+pub(crate) fn verify(limits: Limits, file: &[u8]) -> Verdict {
+    // SAFETY: as for `read`. `Limits` has the layout of `madsjirn_limits`, and the function takes any.
+    unsafe { madsjirn_verify(limits, file.as_ptr(), file.len()) }
 }
 
-pub(crate) fn work_out(file: &mut [u8]) -> Verdict {
-    // SAFETY: as for `read`, and the slice is borrowed mutably, so that it is valid to write too.
-    unsafe { madsjirn_work_out(file.as_mut_ptr(), file.len()) }
+pub(crate) fn work_out(limits: Limits, file: &mut [u8]) -> Verdict {
+    // SAFETY: as for `verify`, and the slice is borrowed mutably, so that it is valid to write too.
+    unsafe { madsjirn_work_out(limits, file.as_mut_ptr(), file.len()) }
 }
 
 pub(crate) fn run(
+    limits: Limits,
     file: &[u8],
     machine: &mut Machine,
     memory: &mut [u8],
@@ -101,11 +104,12 @@ pub(crate) fn run(
     budget: u64,
 ) -> Answer {
     // SAFETY: the pointers are valid for their lengths and not null, since they come from references;
-    // `machine` and `memory` are borrowed mutably, so the three do not overlap. `Machine` has the
-    // layout of `madsjirn_machine`. The function takes any bytes, machine, offset and budget, and
-    // keeps no pointer.
+    // `machine` and `memory` are borrowed mutably, so the three do not overlap. `Limits` and `Machine` have the
+    // layouts of `madsjirn_limits` and `madsjirn_machine`. The function takes any limits, bytes, machine, offset and
+    // budget, and keeps no pointer.
     unsafe {
         madsjirn_run(
+            limits,
             file.as_ptr(),
             file.len(),
             machine,
@@ -117,10 +121,17 @@ pub(crate) fn run(
     }
 }
 
-pub(crate) fn step(file: &[u8], machine: &mut Machine, memory: &mut [u8], offset: usize) -> Answer {
+pub(crate) fn step(
+    limits: Limits,
+    file: &[u8],
+    machine: &mut Machine,
+    memory: &mut [u8],
+    offset: usize,
+) -> Answer {
     // SAFETY: as for `run`.
     unsafe {
         madsjirn_step(
+            limits,
             file.as_ptr(),
             file.len(),
             machine,

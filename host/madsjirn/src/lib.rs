@@ -9,13 +9,16 @@
 //! [`work_out`] does so too, for builders without a tool for claims: it writes the claims itself.
 //! [`write`](write()) makes a module's file from its tables, with the instructions of [`assembly`].
 //!
+//! What judges a module for a device, or runs it there, is told the device's [`Limits`] first: those of the box or of
+//! the scale plate.
+//!
 //! What the functions answer is proved. Not proved is this wrapper, which only turns numbers into types.
 //!
 //! # Document 01's loop
 //!
 //! ```
 //! use madsjirn::assembly::*;
-//! use madsjirn::{read, verify, write, Ending, Layout, Machine, Rule, Target};
+//! use madsjirn::{read, verify, write, Ending, Layout, Limits, Machine, Rule, Target};
 //!
 //! # fn main() -> Result<(), madsjirn::Refusal> {
 //! let layout = Layout { base: 0x2000_0000, size: 4096, guard: 256 };
@@ -26,7 +29,7 @@
 //! assert_eq!(length, file.len());
 //!
 //! assert_eq!(read(&file)?.layout, layout);
-//! let verified = verify(&file)?;
+//! let verified = verify(Limits::BOX, &file)?;
 //! assert_eq!((verified.instructions(), verified.targets()), (4, 2));
 //!
 //! // The region is 4,096 bytes from offset 1,000 on; no other byte can change.
@@ -53,6 +56,7 @@ pub mod assembly;
 mod calls;
 #[allow(unsafe_code)]
 mod ffi;
+mod limits;
 mod members;
 mod refusal;
 mod tables;
@@ -61,6 +65,7 @@ mod writing;
 
 pub use answers::{Ending, Layout, Machine, Module, Run};
 pub use calls::{read, run, step};
+pub use limits::Limits;
 pub use refusal::{Refusal, Rule};
 pub use tables::{Instruction, Range, Target, LONGEST_FILE};
 pub use verified::{verify, work_out, Verified};

@@ -2,7 +2,7 @@
 //! `host/c/tables.c` assert the same offsets and sizes of the header. A difference is an error when this package is compiled.
 
 use crate::ffi::{Answer, Module, Verdict, Written};
-use crate::{Instruction, Machine, Range, Target};
+use crate::{Instruction, Limits, Machine, Range, Target};
 use core::mem::offset_of;
 
 /// The size of the member that a function picks.
@@ -19,6 +19,8 @@ macro_rules! assert_members {
         )+
     };
 }
+
+assert_members!(Limits, 8, instructions at 0 with 4, targets at 4 with 4);
 
 assert_members!(Machine, 36, registers at 0 with 32, pc at 32 with 2);
 

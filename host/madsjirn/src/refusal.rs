@@ -46,11 +46,14 @@ pub enum Rule {
     NoRoom = 15,
     /// 16, "no space": a file is longer than the buffer that it is to be written into. The place is 0.
     NoSpace = 16,
+    /// 17, "over plate": more instructions or more targets than the device's [`Limits`](crate::Limits) say. It comes
+    /// after 1 to 7 and before all others. The place is 0.
+    OverPlate = 17,
 }
 
 impl Rule {
     /// All rules, by number.
-    pub const ALL: [Rule; 16] = [
+    pub const ALL: [Rule; 17] = [
         Rule::Truncated,
         Rule::WrongTag,
         Rule::BadLength,
@@ -67,9 +70,10 @@ impl Rule {
         Rule::BadPc,
         Rule::NoRoom,
         Rule::NoSpace,
+        Rule::OverPlate,
     ];
 
-    /// The rule's number in the documents, 1 to 16.
+    /// The rule's number in the documents, 1 to 17.
     pub fn number(self) -> u32 {
         self as u32
     }
@@ -99,6 +103,7 @@ impl Rule {
             Rule::BadPc => "bad pc",
             Rule::NoRoom => "no room",
             Rule::NoSpace => "no space",
+            Rule::OverPlate => "over plate",
         }
     }
 

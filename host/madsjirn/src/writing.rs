@@ -15,12 +15,13 @@ use crate::tables::{Instruction, Target};
 /// - 5, 6 and 7, as a file with these tables would get them; a number that is too large for its field is out of range;
 /// - 16, if the file is longer than `buffer`. [`LONGEST_FILE`](crate::LONGEST_FILE) bytes have space for every module.
 ///
-/// A written module is readable, and not more than that: it still has to be accepted by [`verify`](crate::verify()), or
-/// by [`work_out`](crate::work_out()) if its builder leaves the claims of direct targets to it.
+/// A written module is readable, and not more than that: it still has to be accepted for a device, by
+/// [`verify`](crate::verify()) or, if its builder leaves the claims of direct targets to it, by
+/// [`work_out`](crate::work_out()).
 ///
 /// ```
 /// use madsjirn::assembly::*;
-/// use madsjirn::{verify, write, Layout, Rule, Target, LONGEST_FILE};
+/// use madsjirn::{verify, write, Layout, Limits, Rule, Target, LONGEST_FILE};
 ///
 /// # fn main() -> Result<(), madsjirn::Refusal> {
 /// let layout = Layout { base: 0x2000_0000, size: 4096, guard: 256 };
@@ -29,14 +30,14 @@ use crate::tables::{Instruction, Target};
 /// let mut buffer = [0; LONGEST_FILE];
 /// let length = write(layout, &instructions, &targets, &mut buffer)?;
 /// assert_eq!(length, 21 + 3 * 8 + 68);
-/// assert!(verify(&buffer[..length]).is_ok());
+/// assert!(verify(Limits::BOX, &buffer[..length]).is_ok());
 ///
 /// let refusal = write(layout, &instructions, &targets, &mut buffer[..112]).unwrap_err();
 /// assert_eq!((refusal.rule, refusal.place), (Rule::NoSpace, 0));
 ///
 /// // Without the guard it is written all the same, but never accepted.
 /// let length = write(layout, &instructions[1..], &targets, &mut buffer)?;
-/// assert_eq!(verify(&buffer[..length]).unwrap_err().rule, Rule::WildAccess);
+/// assert_eq!(verify(Limits::BOX, &buffer[..length]).unwrap_err().rule, Rule::WildAccess);
 /// # Ok(())
 /// # }
 /// ```

@@ -1,7 +1,7 @@
 //! Every file that docs/MODULES.md shows is judged as the page says, and its runs end so. Every refusal and every
 //! ending has its row there.
 //!
-//! An example is a fenced block. Its info string is `module` or `change`, and then the line that the gate
+//! An example is a fenced block. Its info string is `module` or `change`, and then the line that the box's gate
 //! program prints for it. A line of the block is an offset, a colon, bytes in hex and, after `#`, a remark.
 //! A module is a whole file; a change is other bytes for some of the last module above it. In a block `changes`
 //! every line is a change by itself, and what is printed stands before it and a bar.
@@ -16,7 +16,7 @@ mod write_loop;
 use std::fs;
 use std::path::Path;
 
-use madsjirn::{verify, work_out, Ending, Machine, Refusal, Rule, Run, LONGEST_FILE};
+use madsjirn::{verify, work_out, Ending, Limits, Machine, Refusal, Rule, Run, LONGEST_FILE};
 
 /// A file of the repository.
 fn bytes_of(path: &str) -> Vec<u8> {
@@ -114,8 +114,10 @@ fn sources(page: &str, language: &str) -> Vec<String> {
 fn claims_are_worked_out() {
     for (module, number) in judge_page(&page()).into_iter().zip(1..) {
         let mut file = garbled(&module);
-        let answered = work_out(&mut file).map(|module| (module.instructions(), module.targets()));
-        let accepted = verify(&module).map(|module| (module.instructions(), module.targets()));
+        let answered = work_out(Limits::BOX, &mut file)
+            .map(|module| (module.instructions(), module.targets()));
+        let accepted =
+            verify(Limits::BOX, &module).map(|module| (module.instructions(), module.targets()));
         assert_eq!(answered, accepted, "module {number} of the page");
         if number == 1 {
             assert_eq!(
@@ -145,7 +147,7 @@ fn garbled(module: &[u8]) -> Vec<u8> {
 /// A run from pc 0 with every register 0 and some bytes at the beginning of a region of zeros, and the machine that it
 /// leaves.
 fn run_of(file: &[u8], bytes: &[u8]) -> (Run, Machine) {
-    let module = verify(file).expect("the module is accepted");
+    let module = verify(Limits::BOX, file).expect("the module is accepted");
     let mut machine = Machine::default();
     let mut region = [0; 4096];
     region[..bytes.len()].copy_from_slice(bytes);
@@ -177,9 +179,9 @@ fn judge_page(page: &str) -> Vec<Vec<u8>> {
     modules
 }
 
-/// What the gate program prints.
+/// What the box's gate program prints.
 fn answer(file: &[u8]) -> String {
-    match verify(file) {
+    match verify(Limits::BOX, file) {
         Ok(module) => format!("accepted {} {}", module.instructions(), module.targets()),
         Err(Refusal { rule, place }) => format!("refused {} {place}", rule.number()),
     }

@@ -1,6 +1,6 @@
 //! Document 02's ticket 2: "w 129 and w 130 read one and two bytes and carry the sign up through 32 bits".
 
-use madsjirn::{verify, Ending, Machine, Refusal, Rule};
+use madsjirn::{verify, Ending, Limits, Machine, Refusal, Rule};
 
 const LOAD: u8 = 10;
 const STORE: u8 = 11;
@@ -34,7 +34,7 @@ fn samples() {
         (130, [0xff, 0xff], 0xffff_ffff),
     ] {
         let file = file(LOAD, width);
-        let module = verify(&file).expect("the module is accepted");
+        let module = verify(Limits::BOX, &file).expect("the module is accepted");
         let mut memory = [0x55; 4096];
         memory[..2].copy_from_slice(&sample);
         let mut machine = Machine::default();
@@ -60,6 +60,10 @@ fn bad_widths() {
             place: 1,
         };
         let file = file(opcode, width);
-        assert_eq!(verify(&file).err(), Some(refused), "{opcode}, {width}");
+        assert_eq!(
+            verify(Limits::BOX, &file).err(),
+            Some(refused),
+            "{opcode}, {width}"
+        );
     }
 }

@@ -1,7 +1,7 @@
 //! Document 02's ticket 3: claims that are worked out, which "ignores its inner doors' claims and writes new ones over
 //! them; a refusal leaves the bytes as they came".
 
-use madsjirn::{verify, work_out, Ending, Machine, Rule};
+use madsjirn::{verify, work_out, Ending, Limits, Machine, Rule};
 
 /// A claim for all registers that rule 7 refuses where it counts.
 const CROSSED: [[u32; 2]; 8] = [[u32::MAX, 0]; 8];
@@ -30,13 +30,13 @@ fn accepted() {
     let mut due = [[0, u32::MAX]; 8];
     due[1] = [0x2000_0000, 0x2000_1000];
     let mut file_then = file(4, CROSSED);
-    let refused = verify(&file_then).expect_err("the claim is none");
+    let refused = verify(Limits::BOX, &file_then).expect_err("the claim is none");
     assert_eq!((refused.rule, refused.place), (Rule::BadTarget, 1));
 
-    let module = work_out(&mut file_then).expect("the module is accepted");
+    let module = work_out(Limits::BOX, &mut file_then).expect("the module is accepted");
     assert_eq!((module.instructions(), module.targets()), (4, 2));
     assert_eq!(module.file(), file(4, due));
-    assert_eq!(verify(module.file()), Ok(module));
+    assert_eq!(verify(Limits::BOX, module.file()), Ok(module));
     // What is promised of accepted modules holds for it.
     let mut machine = Machine::default();
     let run = module.run(&mut machine, &mut [0; 4096], 0, 10_000);
@@ -57,7 +57,7 @@ fn refused() {
         (&mut truncated, Rule::Truncated, 50),
     ] {
         let before = file.clone();
-        let refusal = work_out(file).expect_err("the module is refused");
+        let refusal = work_out(Limits::BOX, file).expect_err("the module is refused");
         assert_eq!((refusal.rule, refusal.place), (rule, place));
         assert_eq!(*file, before);
     }

@@ -1,16 +1,18 @@
-//! Files for the gate program, each with the line that it must print. The first are document 01's known outcomes, then
-//! those of document 02's tickets 1 and 2; the others break the rules of document 01's table one by one.
+//! Files for the gate programs, each with the line that the box's must print and the one that the plate's must. The
+//! first are document 01's known outcomes, then those of document 02's tickets 1 and 2; then come files that break the
+//! rules of document 01's table one by one, and those of ticket 8: around the limits of the plate, and over them.
 
 use crate::assembler::{addi, guard, halt, jump, jumpr, load, load_signed, store};
 use crate::encode::{claim, Instruction, Module, Target};
 use crate::rule_n::turned;
-use crate::samples::{document_loop, largest};
+use crate::samples::{document_loop, largest, sized};
 
-/// Standard input, and what standard output must then be, but for the newline.
+/// Standard input, and what the standard output of either program must then be, but for the newline.
 pub struct Case {
     pub name: &'static str,
     pub file: Vec<u8>,
-    pub line: &'static str,
+    pub on_box: &'static str,
+    pub on_plate: &'static str,
 }
 
 pub fn cases() -> Vec<Case> {
@@ -21,11 +23,27 @@ pub fn cases() -> Vec<Case> {
     cases.extend(trailing_bytes());
     cases.extend(refused_tables());
     cases.extend(refused_code());
+    cases.extend(around_the_limits());
+    cases.extend(bad_and_over());
     cases
 }
 
+/// A case that is the same on both.
 fn case(name: &'static str, file: Vec<u8>, line: &'static str) -> Case {
-    Case { name, file, line }
+    Case {
+        name,
+        file,
+        on_box: line,
+        on_plate: line,
+    }
+}
+
+/// A case over the plate's limits that keeps rules 1 to 7.
+fn over(name: &'static str, module: &Module, on_box: &'static str) -> Case {
+    Case {
+        on_plate: "refused 17 0",
+        ..case(name, module.to_bytes(), on_box)
+    }
 }
 
 /// A case with document 01's loop, changed.
@@ -44,7 +62,7 @@ fn known_outcomes() -> Vec<Case> {
             m.targets[1].claim[1] = m.layout.region();
         }),
         case("empty", Vec::new(), "refused 1 0"),
-        case("largest", largest().to_bytes(), "accepted 4096 256"),
+        over("largest", &largest(), "accepted 4096 256"),
     ]
 }
 
@@ -98,7 +116,7 @@ fn refused_fields() -> Vec<Case> {
     ]
 }
 
-/// The loop's file has 189 bytes, the largest 50,197. The gate program reads at most 65,536, so that here what it
+/// The loop's file has 189 bytes, the largest 50,197. A gate program reads at most 65,536, so that here what it
 /// reads is the whole, just the whole, and less.
 fn trailing_bytes() -> Vec<Case> {
     let longer = |module: Module, length: usize| {
@@ -134,5 +152,75 @@ fn refused_code() -> Vec<Case> {
         changed("unchecked", "refused 9 3", |m| m.code[3] = jumpr(1)),
         changed("unreachable", "refused 12 4", |m| m.code.push(halt())),
         changed("falls-off", "refused 13 3", |m| m.code[3] = addi(1, 4)),
+    ]
+}
+
+/// The longest module that the plate takes, and those with one more of something.
+fn around_the_limits() -> Vec<Case> {
+    let fits = |name, instructions, targets, line| {
+        case(name, sized(instructions, targets).to_bytes(), line)
+    };
+    let over_by =
+        |name, instructions, targets, line| over(name, &sized(instructions, targets), line);
+    vec![
+        fits("plate-512-1", 512, 1, "accepted 512 1"),
+        fits("plate-32-32", 32, 32, "accepted 32 32"),
+        fits("plate-512-32", 512, 32, "accepted 512 32"),
+        over_by("plate-513-1", 513, 1, "accepted 513 1"),
+        over_by("plate-33-33", 33, 33, "accepted 33 33"),
+        over_by("plate-512-33", 512, 33, "accepted 512 33"),
+        over_by("plate-513-32", 513, 32, "accepted 513 32"),
+        over_by("plate-513-33", 513, 33, "accepted 513 33"),
+    ]
+}
+
+/// 600 instructions and 40 targets that break a rule: up to 7 it is the plate's answer too, and from 8 on it is not.
+fn bad_and_over() -> Vec<Case> {
+    let with = |change: fn(&mut Module)| {
+        let mut module = sized(600, 40);
+        change(&mut module);
+        module
+    };
+    let bad = |name, line, change| case(name, with(change).to_bytes(), line);
+    let code = |name, line, change| over(name, &with(change), line);
+    let mut longer = sized(600, 40).to_bytes();
+    longer.push(0);
+    let mut cut = sized(600, 40).to_bytes();
+    cut.pop();
+    let mut wrong_tag = sized(600, 40).to_bytes();
+    wrong_tag[18 + 8 * 600] = 2;
+    vec![
+        case("over-cut", cut, "refused 1 4818"),
+        case("over-wrong-tag", wrong_tag, "refused 2 4818"),
+        case("over-longer", longer, "refused 4 7541"),
+        bad("over-4097", "refused 3 15", |m| {
+            m.code.resize(4097, halt());
+        }),
+        bad("over-257", "refused 3 4818", |m| {
+            m.targets.resize(257, Target::indirect(599));
+        }),
+        bad("over-odd-size", "refused 5 0", |m| m.layout.size = 4095),
+        bad("over-register-8", "refused 6 599", |m| m.code[599].a = 8),
+        bad("over-index-600", "refused 7 39", |m| {
+            m.targets[39].index = 600;
+        }),
+        code("over-no-target", "refused 8 598", |m| {
+            m.code[598] = jump(40)
+        }),
+        code("over-unchecked", "refused 9 599", |m| {
+            m.code[599] = jumpr(1)
+        }),
+        code("over-wild", "refused 10 598", |m| {
+            m.code[598] = load(0, 1, 4, 0);
+        }),
+        code("over-broken-claim", "refused 11 38", |m| {
+            m.targets[39].claim = claim(&[(2, (0, 9))]);
+        }),
+        code("over-unreachable", "refused 12 600", |m| {
+            m.code.push(halt())
+        }),
+        code("over-falls-off", "refused 13 599", |m| {
+            m.code[599] = addi(1, 4)
+        }),
     ]
 }

@@ -1,5 +1,5 @@
 //! Module files for tests and measurements: an encoder, samples, tables to be written, a generator and cases for the
-//! gate program.
+//! gate programs.
 
 pub mod assembler;
 pub mod encode;

@@ -1,5 +1,5 @@
-//! `gate-cases FOLDER`: writes the files for the gate program, `NAME.module`, and beside each the whole output
-//! that is due, `NAME.line`.
+//! `gate-cases FOLDER`: writes the files for the gate programs, `NAME.module`, and beside each the whole output that is
+//! due of the box's program, `NAME.box`, and of the plate's, `NAME.plate`.
 
 use modules::gate::{cases, Case};
 use std::path::Path;
@@ -23,8 +23,9 @@ fn main() -> ExitCode {
 
 fn write(folder: &Path, case: &Case) -> io::Result<()> {
     fs::write(folder.join(format!("{}.module", case.name)), &case.file)?;
-    fs::write(
-        folder.join(format!("{}.line", case.name)),
-        format!("{}\n", case.line),
-    )
+    for (device, line) in [("box", case.on_box), ("plate", case.on_plate)] {
+        let path = folder.join(format!("{}.{device}", case.name));
+        fs::write(path, format!("{line}\n"))?;
+    }
+    Ok(())
 }

@@ -3,7 +3,7 @@
 use crate::assembler::*;
 use crate::encode::{claim, test, Layout, Module, Target};
 
-/// A module with the gate program's lines, by rule N as it was and as it is.
+/// A module with the gate programs' lines, by rule N as it was and as it is.
 pub struct Turned {
     pub name: &'static str,
     pub module: Module,

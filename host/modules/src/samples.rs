@@ -1,5 +1,6 @@
 //! Accepted modules: document 01's loop, one that counts its rounds, the largest module there can be, a mixed one that
-//! never ends, one whose claims take long to work out, and ones with few and with many targets, which are looked up.
+//! never ends, one whose claims take long to work out, ones with few and with many targets, which are looked up, and
+//! ones with just as many instructions and targets as are asked for.
 
 use crate::assembler::*;
 use crate::encode::{claim, test, Instruction, Layout, Module, Target, ANYTHING};
@@ -17,6 +18,22 @@ pub fn document_loop() -> Module {
 }
 
 pub const LOOP_STEPS: u64 = 3074;
+
+/// So many instructions, and targets at the first of them: additions to r0, and a halt at the end. From r0 = 0 it halts
+/// with one less than the instructions there.
+pub fn sized(instructions: usize, targets: usize) -> Module {
+    let mut code = vec![addi(0, 1); instructions];
+    code[instructions - 1] = halt();
+    let targets = (0..targets as u16).map(|index| match index % 2 {
+        0 => Target::indirect(index),
+        _ => Target::direct(index, [ANYTHING; 8]),
+    });
+    Module {
+        layout: Layout::KNOWN,
+        code,
+        targets: targets.collect(),
+    }
+}
 
 /// A loop of two instructions that counts its rounds in r0 and never ends by itself.
 pub fn counting() -> Module {

@@ -1,11 +1,23 @@
 //! The hand-written implementation.
 
-use crate::{ending, Machine, Ran, Read, Refused, Verdict, Written};
+use crate::{ending, Limits, Machine, Ran, Read, Refused, Verdict, Written};
 use handwritten::{Accepted, Ending, InstructionRow, Layout, Module, Refusal, Sweeps, TargetRow};
 use modules::{encode, tables};
 
 fn refused(refusal: Refusal) -> Refused {
     (refusal.number, refusal.place)
+}
+
+#[inline]
+fn told(limits: Limits) -> handwritten::Limits {
+    let Limits {
+        instructions,
+        targets,
+    } = limits;
+    handwritten::Limits {
+        instructions,
+        targets,
+    }
 }
 
 fn number(ending: Ending) -> u32 {
@@ -31,18 +43,18 @@ pub fn read(file: &[u8]) -> Read {
 }
 
 #[inline]
-pub fn verify(file: &[u8]) -> Verdict {
-    verdict(handwritten::verify(file))
+pub fn verify(limits: Limits, file: &[u8]) -> Verdict {
+    verdict(handwritten::verify(told(limits), file))
 }
 
-/// The verdict by rule N as it was before document 02's ticket 1: what the ticket turns is told by it.
+/// The box's verdict by rule N as it was before document 02's ticket 1: what the ticket turns is told by it.
 pub fn verify_by_earlier_rule_n(file: &[u8]) -> Verdict {
     verdict(handwritten::verify_by_earlier_rule_n(file))
 }
 
 #[inline]
-pub fn work_out(file: &mut [u8]) -> Verdict {
-    verdict(handwritten::work_out(file))
+pub fn work_out(limits: Limits, file: &mut [u8]) -> Verdict {
+    verdict(handwritten::work_out(told(limits), file))
 }
 
 /// What the sweeps of `work_out` come to: the kinds of growth are told by it.
@@ -99,6 +111,7 @@ fn verdict(verified: Result<Accepted, Refusal>) -> Verdict {
 
 #[inline]
 pub fn run(
+    limits: Limits,
     file: &[u8],
     machine: &mut Machine,
     memory: &mut [u8],
@@ -107,7 +120,7 @@ pub fn run(
 ) -> Ran {
     let Machine { registers, pc } = *machine;
     let mut lent = handwritten::Machine { registers, pc };
-    let made = handwritten::run(file, &mut lent, memory, offset, budget);
+    let made = handwritten::run(told(limits), file, &mut lent, memory, offset, budget);
     let handwritten::Machine { registers, pc } = lent;
     *machine = Machine { registers, pc };
     let run = made.map_err(refused)?;

@@ -35,6 +35,30 @@ pub mod ending {
     pub const OUT_OF_BUDGET: u32 = Ending::OutOfBudget as u32;
 }
 
+/// How many instructions and targets a device holds.
+#[derive(Clone, Copy, Debug, PartialEq, Eq)]
+pub struct Limits {
+    pub instructions: u32,
+    pub targets: u32,
+}
+
+impl Limits {
+    pub const BOX: Limits = Limits {
+        instructions: 4096,
+        targets: 256,
+    };
+
+    pub const PLATE: Limits = Limits {
+        instructions: 512,
+        targets: 32,
+    };
+
+    /// Whether a module with these counts keeps within them.
+    pub fn hold(self, instructions: u32, targets: u32) -> bool {
+        instructions <= self.instructions && targets <= self.targets
+    }
+}
+
 /// The machine record.
 #[derive(Clone, Copy, Debug, Default, PartialEq, Eq)]
 pub struct Machine {
@@ -72,18 +96,18 @@ impl Side {
     }
 
     #[inline]
-    pub fn verify(self, file: &[u8]) -> Verdict {
+    pub fn verify(self, limits: Limits, file: &[u8]) -> Verdict {
         match self {
-            Side::Proved => proved::verify(file),
-            Side::HandWritten => hand_written::verify(file),
+            Side::Proved => proved::verify(limits, file),
+            Side::HandWritten => hand_written::verify(limits, file),
         }
     }
 
     #[inline]
-    pub fn work_out(self, file: &mut [u8]) -> Verdict {
+    pub fn work_out(self, limits: Limits, file: &mut [u8]) -> Verdict {
         match self {
-            Side::Proved => proved::work_out(file),
-            Side::HandWritten => hand_written::work_out(file),
+            Side::Proved => proved::work_out(limits, file),
+            Side::HandWritten => hand_written::work_out(limits, file),
         }
     }
 
@@ -99,6 +123,7 @@ impl Side {
     #[inline]
     pub fn run(
         self,
+        limits: Limits,
         file: &[u8],
         machine: &mut Machine,
         memory: &mut [u8],
@@ -106,17 +131,24 @@ impl Side {
         budget: u64,
     ) -> Ran {
         match self {
-            Side::Proved => proved::run(file, machine, memory, offset, budget),
-            Side::HandWritten => hand_written::run(file, machine, memory, offset, budget),
+            Side::Proved => proved::run(limits, file, machine, memory, offset, budget),
+            Side::HandWritten => hand_written::run(limits, file, machine, memory, offset, budget),
         }
     }
 
     #[inline]
-    pub fn step(self, file: &[u8], machine: &mut Machine, memory: &mut [u8], offset: usize) -> Ran {
+    pub fn step(
+        self,
+        limits: Limits,
+        file: &[u8],
+        machine: &mut Machine,
+        memory: &mut [u8],
+        offset: usize,
+    ) -> Ran {
         match self {
-            Side::Proved => proved::step(file, machine, memory, offset),
+            Side::Proved => proved::step(limits, file, machine, memory, offset),
             // It has no function of its own: a step is a run with budget 1.
-            Side::HandWritten => hand_written::run(file, machine, memory, offset, 1),
+            Side::HandWritten => hand_written::run(limits, file, machine, memory, offset, 1),
         }
     }
 }

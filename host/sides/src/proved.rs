@@ -1,11 +1,23 @@
 //! The proved library, through its wrapper.
 
-use crate::{Machine, Ran, Read, Refused, Verdict, Written};
+use crate::{Limits, Machine, Ran, Read, Refused, Verdict, Written};
 use madsjirn::{Instruction, Layout, Range, Refusal, Run, Target, Verified};
 use modules::{encode, tables};
 
 fn refused(refusal: Refusal) -> Refused {
     (refusal.rule.number(), refusal.place)
+}
+
+#[inline]
+fn told(limits: Limits) -> madsjirn::Limits {
+    let Limits {
+        instructions,
+        targets,
+    } = limits;
+    madsjirn::Limits {
+        instructions,
+        targets,
+    }
 }
 
 #[inline]
@@ -16,13 +28,13 @@ pub fn read(file: &[u8]) -> Read {
 }
 
 #[inline]
-pub fn verify(file: &[u8]) -> Verdict {
-    verdict(madsjirn::verify(file))
+pub fn verify(limits: Limits, file: &[u8]) -> Verdict {
+    verdict(madsjirn::verify(told(limits), file))
 }
 
 #[inline]
-pub fn work_out(file: &mut [u8]) -> Verdict {
-    verdict(madsjirn::work_out(file))
+pub fn work_out(limits: Limits, file: &mut [u8]) -> Verdict {
+    verdict(madsjirn::work_out(told(limits), file))
 }
 
 /// Tables as the wrapper takes them.
@@ -75,6 +87,7 @@ fn verdict(verified: Result<Verified, Refusal>) -> Verdict {
 
 #[inline]
 pub fn run(
+    limits: Limits,
     file: &[u8],
     machine: &mut Machine,
     memory: &mut [u8],
@@ -82,14 +95,20 @@ pub fn run(
     budget: u64,
 ) -> Ran {
     lend(machine, |machine| {
-        madsjirn::run(file, machine, memory, offset, budget)
+        madsjirn::run(told(limits), file, machine, memory, offset, budget)
     })
 }
 
 #[inline]
-pub fn step(file: &[u8], machine: &mut Machine, memory: &mut [u8], offset: usize) -> Ran {
+pub fn step(
+    limits: Limits,
+    file: &[u8],
+    machine: &mut Machine,
+    memory: &mut [u8],
+    offset: usize,
+) -> Ran {
     lend(machine, |machine| {
-        madsjirn::step(file, machine, memory, offset)
+        madsjirn::step(told(limits), file, machine, memory, offset)
     })
 }
 

@@ -1,6 +1,6 @@
 //! Generated files: accepted ones, ones that break a rule by a hair, damaged ones, ones whose verdict depends on
-//! document 02, ones whose claims are to be worked out, and ones whose targets are to be found. And faults of tables
-//! that are to be written.
+//! document 02, ones whose claims are to be worked out, ones whose targets are to be found, and ones around the limits
+//! of the plate. And faults of tables that are to be written.
 
 mod access;
 mod body;
@@ -10,6 +10,7 @@ mod faults;
 mod grouped;
 mod growing;
 mod near;
+mod plate;
 mod shape;
 mod turned;
 mod valid;
@@ -41,10 +42,12 @@ pub enum Origin {
     Growing,
     /// Accepted, with targets where groups of 64 instructions begin and end.
     Grouped,
+    /// Accepted on the box, with about as many instructions or targets as the plate holds.
+    Plate,
 }
 
 impl Origin {
-    pub const ALL: [Origin; 9] = [
+    pub const ALL: [Origin; 10] = [
         Origin::Valid,
         Origin::Near,
         Origin::Damaged,
@@ -54,6 +57,7 @@ impl Origin {
         Origin::Signed,
         Origin::Growing,
         Origin::Grouped,
+        Origin::Plate,
     ];
 
     pub fn name(self) -> &'static str {
@@ -67,13 +71,14 @@ impl Origin {
             Origin::Signed => "signed",
             Origin::Growing => "growing",
             Origin::Grouped => "grouped",
+            Origin::Plate => "plate",
         }
     }
 
-    /// Whether the module is made to be accepted, or to be refused.
+    /// Whether the module is made to be accepted on the box, or to be refused there.
     pub fn accepted(self) -> Option<bool> {
         match self {
-            Origin::Valid | Origin::Narrowed | Origin::Grouped => Some(true),
+            Origin::Valid | Origin::Narrowed | Origin::Grouped | Origin::Plate => Some(true),
             Origin::EmptyN | Origin::EmptyB | Origin::Signed => Some(false),
             Origin::Near | Origin::Damaged | Origin::Growing => None,
         }
@@ -100,7 +105,8 @@ pub struct Generated {
 /// A file of any origin.
 pub fn generate(random: &mut Random) -> Generated {
     let origin = match random.below(100) {
-        0..=23 => Origin::Valid,
+        0..=22 => Origin::Valid,
+        23 => Origin::Plate,
         24 | 25 => Origin::Grouped,
         26..=65 => Origin::Near,
         66..=83 => Origin::Damaged,
@@ -123,6 +129,7 @@ pub fn generate_from(origin: Origin, random: &mut Random) -> Generated {
         Origin::EmptyB => turned::empty_b(random),
         Origin::Signed => turned::signed(random),
         Origin::Grouped => grouped::module(random),
+        Origin::Plate => plate::module(random),
     };
     if origin == Origin::Near {
         near::break_rules(random, &mut module);
@@ -138,13 +145,14 @@ pub fn generate_from(origin: Origin, random: &mut Random) -> Generated {
     }
 }
 
-/// An accepted module, now and then one that rule N as it was refuses, one whose targets stand in groups, or one whose
-/// claims are to be worked out.
+/// An accepted module, now and then one that rule N as it was refuses, one whose claims are to be worked out, one whose
+/// targets stand in groups, or one around the limits of the plate.
 fn whole(random: &mut Random) -> Module {
     match random.below(100) {
         0..=7 => turned::narrowed(random),
         8..=15 => growing::module(random),
         16 => grouped::module(random),
+        17 => plate::module(random),
         _ => valid::module(random),
     }
 }

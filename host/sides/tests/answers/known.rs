@@ -1,13 +1,13 @@
-//! The known outcomes of document 01 that are about modules and runs, and the gate program's files, whose lines come
+//! The known outcomes of document 01 that are about modules and runs, and the gate programs' files, whose lines come
 //! from the documents too.
 
-use crate::both::{line, read, run, step, verify};
+use crate::both::{line, read, run, step, verify, verify_by};
 use modules::assembler::*;
 use modules::encode::{claim, Instruction, Layout, Module, Target, ANYTHING};
 use modules::gate::cases;
 use modules::samples::document_loop;
 use sides::ending::{HALTED, OUT_OF_BUDGET, TRAPPED, VIOLATED};
-use sides::{Machine, Ran};
+use sides::{Limits, Machine, Ran};
 
 /// A module with one target, at index 0.
 fn straight(code: &[Instruction]) -> Module {
@@ -168,6 +168,9 @@ fn the_loop_changed() {
 #[test]
 fn gate_cases() {
     for case in cases() {
-        assert_eq!(line(verify(&case.file)), case.line, "{}", case.name);
+        let name = case.name;
+        assert_eq!(line(verify(&case.file)), case.on_box, "{name}");
+        let on_plate = verify_by(Limits::PLATE, &case.file);
+        assert_eq!(line(on_plate), case.on_plate, "{name}");
     }
 }

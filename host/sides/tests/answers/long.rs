@@ -2,7 +2,7 @@
 
 use modules::samples::counting;
 use sides::ending::OUT_OF_BUDGET;
-use sides::{Machine, Side};
+use sides::{Limits, Machine, Side};
 use std::thread;
 
 /// Just more than 32 bits hold, and whole rounds of the loop.
@@ -15,10 +15,10 @@ fn a_count_passes_32_bits() {
         for side in Side::BOTH {
             scope.spawn(move || {
                 let file = counting().to_bytes();
-                assert_eq!(side.verify(&file), Ok([2, 1]));
+                assert_eq!(side.verify(Limits::PLATE, &file), Ok([2, 1]));
                 let mut machine = Machine::default();
                 let mut memory = [7; 4096];
-                let ran = side.run(&file, &mut machine, &mut memory, 0, LONG);
+                let ran = side.run(Limits::PLATE, &file, &mut machine, &mut memory, 0, LONG);
                 assert_eq!(ran, Ok((OUT_OF_BUDGET, LONG)), "{}", side.name());
                 let registers = [(LONG / 2) as u32, 0, 0, 0, 0, 0, 0, 0];
                 assert_eq!(machine, Machine { registers, pc: 0 });

@@ -6,7 +6,7 @@ use modules::encode::{
     claim, target_bounds, test, Instruction, Layout, Module, Range, Target, ANYTHING, DIRECT,
 };
 use modules::samples::{document_loop, largest, mixed, slowest};
-use sides::{sweeps, Side, Verdict};
+use sides::{sweeps, Limits, Side, Verdict};
 
 const FIRST: u32 = Layout::KNOWN.first();
 const LAST: u32 = Layout::KNOWN.last();
@@ -251,7 +251,8 @@ fn many_sweeps() {
     // All registers of all targets grow to anything, as it claims.
     for side in Side::BOTH {
         let mut worked_out = file.clone();
-        assert_eq!(side.work_out(&mut worked_out), Ok([4096, 256]));
+        let answer = side.work_out(Limits::BOX, &mut worked_out);
+        assert_eq!(answer, Ok([4096, 256]));
         assert!(worked_out == file, "{}", side.name());
     }
 }
