@@ -8,7 +8,7 @@ ghost use Rattle.machine.specs.Core.{reach_of};
 use model::{Ending, LoadWidth, Width};
 use reader::module::Module;
 use words::arithmetic::{carry_sign, difference};
-use words::bytes::{byte_at, read_u16, read_u32, store};
+use words::bytes::{byte_at, read_u16, read_u32};
 
 // ---- where they lie, by distances that wrap: no number has more than 32 bits (document 02, ticket 4)
 
@@ -71,6 +71,16 @@ pub(crate) fn carried(region: &[u8], at: usize, width: LoadWidth) -> u32
         LoadWidth::SignedOne => carry_sign(u16::from(byte_at(region, at)), 0x80),
         LoadWidth::SignedTwo => carry_sign(read_u16(region, at), 0x8000),
     }
+}
+
+// The low N bytes of a number, at an offset. That they are all there the access test has shown: a step would pay for another.
+#[tactic(auto, using(words::proofs::Writes::put_written))]
+fn store<const N: usize>(region: &mut [u8], at: usize, x: u32)
+    requires few { N ≤ 4 }
+    requires there { at + N ≤ length region.old }
+    ensures { region.new ≡ write_bytes N x region.old at }
+{
+    region[at..at + N].copy_from_slice(&x.to_le_bytes()[..N]);
 }
 
 // The low bytes of a number, stored at an offset.

@@ -4,8 +4,9 @@ ghost use Rattle.std.specs.Prelude.{◌<◌, ◌≤◌};
 use super::answer::{Counts, Fault, Verdict};
 
 // The opcodes by their numbers; the last is none.
-#[derive(Clone, Copy, PartialEq, Eq)]
+#[derive(Clone, Copy, PartialEq, Eq, Default)]
 pub enum Op {
+    #[default]
     Halt,
     Set,
     Copy,

@@ -4,7 +4,7 @@ use random::Random;
 use std::array;
 
 // The rules that a module may come close to breaking; with Any its code is random.
-#[derive(Clone, Copy, PartialEq, Eq)]
+#[derive(Clone, Copy, PartialEq, Eq, Default)]
 pub enum Miss {
     TooFar,
     Between,
@@ -13,6 +13,7 @@ pub enum Miss {
     NoWayIn,
     Narrow,
     Unchecked,
+    #[default]
     Any,
 }
 

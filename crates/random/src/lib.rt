@@ -50,12 +50,16 @@ impl Random {
         self.below(n) == 0
     }
 
-    // One of the values.
-    pub fn pick<T: Copy, const N: usize>(&mut self, from: &[T; N]) -> T
-        requires { 0 < N }
-        ensures given { slice_get from.now (xorshift self.old.state % N) ≡ Some result }
-        ensures kept { self.new.state ≡ xorshift self.old.state }
+    // One of the values; of none the type's default, and then no number is used.
+    pub fn pick<T: Copy + Default, const N: usize>(&mut self, from: &[T; N]) -> T
+        ensures given { 0 < N → slice_get from.now (xorshift self.old.state % N) ≡ Some result }
+        ensures kept { 0 < N → self.new.state ≡ xorshift self.old.state }
+        ensures none { N ≡ 0 → T.is_default result }
+        ensures unused { N ≡ 0 → self.new.state ≡ self.old.state }
     {
+        if N == 0 {
+            return T::default();
+        }
         from[self.next() as usize % N]
     }
 }

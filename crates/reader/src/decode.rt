@@ -111,7 +111,9 @@ impl Encoding {
         is_register(self.a) && self.b == 0 && is_amount(self.w) && self.imm == 0
     }
 
-    // The instruction of the opcode, if its operands are as they should be.
+    // The instruction of the opcode, if its operands are as they should be. Within its callers, reader and writer, who ask whether there is
+    // one: then none is made.
+    #[inline(always)]
     #[tactic(auto, using(words::proofs::Signed::kept_signed, crate::proofs::Rows::no_instruction_lem, crate::proofs::Rows::provided_some, crate::proofs::Rows::provided_mapped), unfolding(model::specs::File::decode, model::specs::File::rows))]
     pub fn decode(self) -> Option<Instruction>
         ensures { result ≡ decode self.op self.a self.b self.w self.imm }

@@ -6,7 +6,7 @@ use Rattle.reference.specs.declared.answer.Refusal.{Refusal}
 use Rattle.reference.specs.declared.answer.Rule.{Rule}
 use Rattle.reference.specs.declared.device.Limits.{Limits}
 use Rattle.reference.specs.Numbers.{rule_number}
-use Rattle.reference.specs.Verdicts.{Held, Placed, Refused, Within}
+use Rattle.reference.specs.Verdicts.{Held, Refused, Within}
 
 -- A field's bytes are whole pieces of this size, at least one and at most so many.
 pub record Pieces (size most bytes : ℕ) : Type 0 where
@@ -25,16 +25,22 @@ pub record FieldFound (bytes start tag size : ℕ) : Type 0 where
   pub within : start + 3 + size ≤ bytes
   pub listed : Listed tag size
 
+-- A field's refusal is 1 to 3.
+pub record Unfound (e : Refusal) : Type 0 where
+  pub some : 1 ≤ rule_number e.rule
+  pub most : rule_number e.rule ≤ 3
+
 -- Refusals 1 to 5.
 pub record Misshapen (e : Refusal) : Type 0 where
   pub some : 1 ≤ rule_number e.rule
   pub most : rule_number e.rule ≤ 5
 
--- Refusals 1 to 7.
-pub record Unread (e : Refusal) : Type 0 where
-  pub some : 1 ≤ rule_number e.rule
+-- Refusal 6 is at one of the n instructions, 7 at one of the k doors.
+pub record Unread (n k : ℕ) (e : Refusal) : Type 0 where
+  pub least : 6 ≤ rule_number e.rule
   pub most : rule_number e.rule ≤ 7
-  pub placed : Placed e
+  pub code : rule_number e.rule ≡ 6 → e.place < n
+  pub doors : rule_number e.rule ≡ 7 → e.place < k
 
 -- Refusals 1 to 7, and 17.
 pub record Unheld (l : Limits) (e : Refusal) : Type 0 where

@@ -1,5 +1,5 @@
 // The answers: the documents' refusals, counts and endings.
-ghost use Rattle.std.specs.Prelude.{◌≡◌, ◌≤◌};
+ghost use Rattle.std.specs.Prelude.{◌≡◌, ◌%◌};
 
 // The rules of refusals 1 to 17, in the documents' words. Their numbers, and those of the endings, are matches: with the numbers beside
 // the names a wrong one could not be tried, as no two may be the same.
@@ -62,7 +62,7 @@ pub struct Refusal {
 impl Refusal {
     pub(crate) fn at(rule: Rule, place: usize) -> Refusal
         ensures is { result.rule ≡ rule }
-        ensures lies { result.place ≤ place }
+        ensures lies { result.place ≡ place % 4294967296 }
     {
         Refusal {
             rule,

@@ -1,5 +1,5 @@
 // Instructions by a table: what each opcode is, and the largest value of each of its operands.
-ghost use Rattle.std.specs.Prelude.{◌<◌};
+ghost use Rattle.std.specs.Prelude.{◌≡◌, ◌%◌};
 
 #[derive(Clone, Copy, PartialEq, Eq)]
 pub(crate) enum Op {
@@ -22,12 +22,13 @@ pub(crate) enum Op {
 }
 
 // A decoded instruction, its unused operands zero. What w says depends on op: an access' width, a shift's amount or a
-// branch's test. It stays the row's number, as a, b and imm do: a type for it would be sixteen again.
+// branch's test. It stays the row's number, as a, b and imm do: a type for it would be sixteen again. All have 32 bits,
+// since a module has 4,096 of each.
 #[derive(Clone, Copy)]
 pub(crate) struct Ins {
     pub(crate) op: Op,
-    pub(crate) a: usize,
-    pub(crate) b: usize,
+    pub(crate) a: u32,
+    pub(crate) b: u32,
     pub(crate) w: u32,
     pub(crate) imm: u32,
 }
@@ -43,7 +44,7 @@ impl Ins {
 
     // How many bytes an access reaches for. The widths that carry the sign are 128 above their count.
     pub(crate) fn bytes(self) -> u32
-        ensures { result < 128 }
+        ensures { result ≡ self.w % 128 }
     {
         self.w % 128
     }
@@ -101,12 +102,6 @@ pub(crate) fn decode(row: [u32; 5]) -> Option<Ins> {
     if most_a < a || most_b < b || most_w < w || most_imm < imm {
         return None;
     }
-    let decoded = Ins {
-        op,
-        a: a as usize,
-        b: b as usize,
-        w,
-        imm,
-    };
+    let decoded = Ins { op, a, b, w, imm };
     decoded.has_listed_width().then_some(decoded)
 }

@@ -1,6 +1,6 @@
 // The three fields and the layout: refusals 1 to 5.
 ghost use Rattle.std.specs.Prelude.{◌≡◌, ◌<◌, ◌≤◌, length, IsTrue, MatchResult};
-ghost use Rattle.reference.specs.Parts.{FieldFound, Listed, Misshapen};
+ghost use Rattle.reference.specs.Parts.{FieldFound, Listed, Misshapen, Unfound};
 ghost use Rattle.reference.specs.Verdicts.{Held};
 
 use super::answer::{Counts, Refusal, Rule};
@@ -18,6 +18,17 @@ pub(crate) struct Shape {
 }
 
 impl Shape {
+    // Of no file.
+    pub(crate) const EMPTY: Shape = Shape {
+        n: 0,
+        k: 0,
+        layout: Layout {
+            base: 0,
+            size: 0,
+            guard: 0,
+        },
+    };
+
     pub(crate) fn counts(self) -> Counts
         ensures code { result.instructions ≡ self.n }
         ensures doors { result.doors ≡ self.k }
@@ -49,7 +60,7 @@ fn length_listed(tag: u8, length: usize) -> bool
 
 // The length of a field's value.
 fn field(file: &[u8], at: usize, tag: u8) -> Result<usize, Refusal>
-    ensures { MatchResult result (λ size. FieldFound (length file.now) at tag size) (λ e. Misshapen e) }
+    ensures { MatchResult result (λ size. FieldFound (length file.now) at tag size) (λ e. Unfound e) }
 {
     let left = file.len().saturating_sub(at);
     if left < 3 {

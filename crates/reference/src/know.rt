@@ -1,6 +1,6 @@
 // Ranges, and what one step changes of them. Exact sums are held 2^32 above their value, so that the negative ones,
 // those of 32 bits and those beyond lie in three blocks of 2^32.
-ghost use Rattle.std.specs.Prelude.{◌<◌};
+ghost use Rattle.std.specs.Prelude.{◌≡◌, ◌%◌, ◌<◌};
 
 use super::decode::{Ins, Op};
 use super::layout::Layout;
@@ -55,12 +55,16 @@ impl Known {
         spans: [Span::ANYTHING; 8],
     };
 
-    pub(crate) fn of(&self, r: usize) -> Span {
-        self.spans[r % 8]
+    pub(crate) const ZERO: Known = Known {
+        spans: [Span { lo: 0, hi: 0 }; 8],
+    };
+
+    pub(crate) fn of(&self, r: u32) -> Span {
+        self.spans[r as usize % 8]
     }
 
-    pub(crate) fn with(mut self, r: usize, x: Span) -> Known {
-        self.spans[r % 8] = x;
+    pub(crate) fn with(mut self, r: u32, x: Span) -> Known {
+        self.spans[r as usize % 8] = x;
         self
     }
 
@@ -89,7 +93,9 @@ pub(crate) fn raised(imm: u32) -> usize
 }
 
 // The remainder is written out, since `as` must lose nothing.
-fn low(x: usize) -> u32 {
+fn low(x: usize) -> u32
+    ensures { result ≡ x % 4294967296 }
+{
     (x % BLOCK) as u32
 }
 

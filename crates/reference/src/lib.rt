@@ -36,7 +36,8 @@ use tables::Tables;
 pub fn verify(limits: Limits, file: &[u8]) -> Result<Counts, Refusal>
     ensures { VerifySaid limits (length file.now) result }
 {
-    let module = Module::read(limits, file, false)?;
+    let mut module = Module::EMPTY;
+    module.read(limits, file, false)?;
     module.judge()?;
     Ok(module.shape.counts())
 }
@@ -48,8 +49,9 @@ pub fn verify(limits: Limits, file: &[u8]) -> Result<Counts, Refusal>
 pub fn work_out(limits: Limits, file: &mut [u8]) -> Result<Counts, Refusal>
     ensures { WorkSaid limits file.old file.new result }
 {
-    let mut module = Module::read(limits, file, true)?;
-    module.claims = module.worked_out();
+    let mut module = Module::EMPTY;
+    module.read(limits, file, true)?;
+    module.work_out();
     module.judge()?;
     module.write_claims(file);
     Ok(module.shape.counts())
@@ -69,10 +71,9 @@ pub fn run(
 ) -> Ran
     ensures { RunSaid limits registers place budget memory.old memory.new result }
 {
-    match ready(limits, file, place, memory.len(), offset) {
-        Ok((module, end)) => {
-            Machine::at(registers, place).run(&module, &mut memory[offset..end], budget)
-        }
+    let mut module = Module::EMPTY;
+    match ready(&mut module, limits, file, place, memory.len(), offset) {
+        Ok(end) => Machine::at(registers, place).run(&module, &mut memory[offset..end], budget),
         Err(refusal) => Ran {
             registers,
             place,
@@ -82,17 +83,19 @@ pub fn run(
     }
 }
 
-// The module, and where its region ends in a memory of so many bytes: of the length alone, since the bytes are lent to the run.
+// Reads the module, and answers where its region ends in a memory of so many bytes: of the length alone, since the bytes are lent to
+// the run.
 fn ready(
+    module: &mut Module,
     limits: Limits,
     file: &[u8],
     place: u16,
     length: usize,
     offset: usize,
-) -> Result<(Module, usize), Refusal>
-    ensures { MatchResult result (λ m. (offset ≤ m.1) × (m.1 ≤ length)) (λ e. RunRefused limits e) }
+) -> Result<usize, Refusal>
+    ensures { MatchResult result (λ end. (offset ≤ end) × (end ≤ length)) (λ e. RunRefused limits e) }
 {
-    let module = Module::read(limits, file, false)?;
+    module.read(limits, file, false)?;
     if module.shape.n <= usize::from(place) {
         return Err(Refusal::at(Rule::BadPlace, 0));
     }
@@ -100,7 +103,7 @@ fn ready(
     if length < offset || length - offset < size {
         return Err(Refusal::at(Rule::NoGround, 0));
     }
-    Ok((module, offset + size))
+    Ok(offset + size)
 }
 
 // Writes the module file of tables: ticket 5 of document 02. A row of instructions is op, a, b, w and imm; a row of doors

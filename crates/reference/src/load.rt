@@ -55,28 +55,27 @@ fn door_row(file: &[u8], at: usize) -> [u32; 18]
     row
 }
 
-// Instructions by index: halts behind the last.
-fn read_code(file: &[u8], shape: Shape) -> Result<[Ins; 4096], Refusal>
-    ensures { IfErr result (λ e. Unread e) }
+// Instructions by index, into a table of halts.
+fn read_code(file: &[u8], shape: Shape, code: &mut [Ins; 4096]) -> Result<(), Refusal>
+    ensures { IfErr result (λ e. Unread shape.n shape.k e) }
 {
-    let mut code = [Ins::HALT; 4096];
     for i in 0..shape.n {
         code[i] = decode(row(file, 18 + i * 8)).ok_or(Refusal::at(Rule::BadInstruction, i))?;
     }
-    Ok(code)
+    Ok(())
 }
 
-// What stands at each index, and what each door claims. Where the claims are `free`, those of inner doors are not looked
-// at, and are anything.
+// What stands at each index, into a table of no doors, and what each door claims. Where the claims are `free`, those of
+// inner doors are not looked at, and are anything.
 fn read_doors(
     file: &[u8],
     shape: Shape,
     free: bool,
-) -> Result<([Option<Mark>; 4096], [Known; 256]), Refusal>
-    ensures { IfErr result (λ e. Unread e) }
+    marks: &mut [Option<Mark>; 4096],
+    claims: &mut [Known; 256],
+) -> Result<(), Refusal>
+    ensures { IfErr result (λ e. Unread shape.n shape.k e) }
 {
-    let mut marks = [None; 4096];
-    let mut claims = [Known::ANYTHING; 256];
     let mut before = None;
     for j in 0..shape.k {
         let number = j as u8;
@@ -91,7 +90,7 @@ fn read_doors(
             });
         }
     }
-    Ok((marks, claims))
+    Ok(())
 }
 
 // The index behind one.
@@ -100,20 +99,24 @@ pub(crate) fn next(i: usize) -> usize {
 }
 
 impl Module {
-    // The limits come after all that the file has to keep.
-    pub(crate) fn read(limits: Limits, file: &[u8], free: bool) -> Result<Module, Refusal>
-        ensures { MatchResult result (λ m. ReadIn limits (length file.now) m.shape.n m.shape.k) (λ e. Unheld limits e) }
+    // What a file is read into. A call makes it once and lends it, as it is too large to be moved, and it is all zero, claims too, so
+    // that one write makes it.
+    pub(crate) const EMPTY: Module = Module {
+        shape: Shape::EMPTY,
+        code: [Ins::HALT; 4096],
+        marks: [None; 4096],
+        claims: [Known::ZERO; 256],
+    };
+
+    // Reads a file into an empty module. The limits come after all that the file has to keep.
+    pub(crate) fn read(&mut self, limits: Limits, file: &[u8], free: bool) -> Result<(), Refusal>
+        ensures { MatchResult result (λ _. ReadIn limits (length file.now) self.new.shape.n self.new.shape.k) (λ e. Unheld limits e) }
     {
         let shape = shape_of(file)?;
-        let code = read_code(file, shape)?;
-        let (marks, claims) = read_doors(file, shape, free)?;
-        limits.hold(shape)?;
-        Ok(Module {
-            shape,
-            code,
-            marks,
-            claims,
-        })
+        read_code(file, shape, &mut self.code)?;
+        read_doors(file, shape, free, &mut self.marks, &mut self.claims)?;
+        self.shape = shape;
+        limits.hold(shape)
     }
 
     // The instruction at an index, a halt past the end.

@@ -68,9 +68,9 @@ impl Machine {
     }
 
     // Register r gets v, where a next index is there.
-    fn set(&mut self, module: &Module, r: usize, v: u32) -> Option<usize> {
+    fn set(&mut self, module: &Module, r: u32, v: u32) -> Option<usize> {
         let to = module.onward(self.place)?;
-        self.registers[r % 8] = v;
+        self.registers[r as usize % 8] = v;
         Some(to)
     }
 
@@ -78,7 +78,7 @@ impl Machine {
         ensures { IfErr result (λ e. Unspent e) }
     {
         let l = module.shape.layout;
-        let address = self.registers[i.b % 8].wrapping_add(i.imm);
+        let address = self.registers[i.b as usize % 8].wrapping_add(i.imm);
         if !lies(address, i.bytes(), l, 0) {
             return Err(if lies(address, i.bytes(), l, l.guard) {
                 Ending::Trapped
@@ -89,9 +89,9 @@ impl Machine {
         let to = module.onward(self.place).ok_or(Ending::Strayed)?;
         let at = address.wrapping_sub(l.base) as usize;
         if i.op == Op::Load {
-            self.registers[i.a % 8] = fetched(region, at, i.w);
+            self.registers[i.a as usize % 8] = fetched(region, at, i.w);
         } else {
-            put(region, at, i.w as usize, self.registers[i.a % 8]);
+            put(region, at, i.w as usize, self.registers[i.a as usize % 8]);
         }
         Ok(to)
     }
@@ -99,8 +99,8 @@ impl Machine {
     // Where an instruction leads that neither halts nor accesses memory; none where it strays. A branch whose test does
     // not hold and a check that is passed lead on.
     fn lead(&mut self, module: &Module, i: Ins) -> Option<usize> {
-        let x = self.registers[i.a % 8];
-        let y = self.registers[i.b % 8];
+        let x = self.registers[i.a as usize % 8];
+        let y = self.registers[i.b as usize % 8];
         let l = module.shape.layout;
         match i.op {
             Op::Set => self.set(module, i.a, i.imm),
@@ -129,7 +129,7 @@ impl Machine {
         let to = match i.op {
             Op::Halt => return Err(Ending::Halted),
             Op::Load | Op::Store => self.access(module, i, region)?,
-            Op::Check if !module.is_open(self.registers[i.a % 8] as usize) => {
+            Op::Check if !module.is_open(self.registers[i.a as usize % 8] as usize) => {
                 return Err(Ending::TurnedAway);
             }
             _ => self.lead(module, i).ok_or(Ending::Strayed)?,

@@ -1,4 +1,6 @@
 // The sweeps of ticket 3 of document 02.
+ghost use Rattle.std.specs.Prelude.{◌≡◌};
+
 use super::door::Kind;
 use super::know::Known;
 use super::load::{Module, next};
@@ -75,8 +77,10 @@ impl Module {
         }
     }
 
-    // The claims as the sweeps leave them.
-    pub(crate) fn worked_out(&self) -> [Known; 256] {
+    // The claims become what the sweeps leave them.
+    pub(crate) fn work_out(&mut self)
+        ensures { self.new.shape ≡ self.old.shape }
+    {
         let mut work = Work::new();
         for sweep in 1..=MOST_SWEEPS {
             work.begin(sweep);
@@ -85,6 +89,6 @@ impl Module {
                 break;
             }
         }
-        work.claims()
+        work.lay(&mut self.claims);
     }
 }

@@ -40,13 +40,13 @@ impl Claim {
 
     // A register of a reached door: the smallest range that covers both its claim and x, or anything if it has grown in
     // eight sweeps before this one. The answer is whether it has changed.
-    fn grow(&mut self, claim: &mut Known, r: usize, x: Span, sweep: u32) -> bool {
+    fn grow(&mut self, claim: &mut Known, r: u32, x: Span, sweep: u32) -> bool {
         let y = claim.of(r);
         if x.lies_in(y) {
             return false;
         }
-        let growth = self.growth[r % 8].with(sweep);
-        self.growth[r % 8] = growth;
+        let growth = self.growth[r as usize % 8].with(sweep);
+        self.growth[r as usize % 8] = growth;
         let grown = if 8 < growth.times {
             Span::ANYTHING
         } else {
@@ -119,7 +119,10 @@ impl Work {
         }
     }
 
-    pub(crate) fn claims(&self) -> [Known; 256] {
-        self.doors.map(|door| door.known.unwrap_or(Known::ANYTHING))
+    // The claims over those that stand there.
+    pub(crate) fn lay(&self, claims: &mut [Known; 256]) {
+        for (claim, door) in claims.iter_mut().zip(self.doors.iter()) {
+            *claim = door.known.unwrap_or(Known::ANYTHING);
+        }
     }
 }

@@ -29,7 +29,7 @@ use Rattle.reader.specs.Readings.{program}
 use Rattle.verifier.specs.declared.rules.Place.{Place}
 
 -- what is found at a named index is the module's target there
-named_target : {l : Layout} {code targets : List ℕ} {n k : ℕ} → Loaded l code targets n k → (to found : Option ℕ)
+pub named_target : {l : Layout} {code targets : List ℕ} {n k : ℕ} → Loaded l code targets n k → (to found : Option ℕ)
     → found ≡ option_and_then (number_at (program_of l code targets).targets) to → target_found targets found ≡ target_named (program_of l code targets).targets to
 unfolding target_found
 named_target loaded None found is = rw is

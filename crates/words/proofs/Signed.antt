@@ -8,7 +8,7 @@ use mir.ValLaws.{to_z-of_z, to_z-Fits, sfits_le}
 use Rattle.model.specs.Words.{modulus, wrap, signed, arithmetic_shift}
 
 -- the machine's reading of a word is the definition's
-reading_is_signed : (x : ℕ) → to_z w32 x ≡ signed x
+pub reading_is_signed : (x : ℕ) → to_z w32 x ≡ signed x
 unfolding signed
 reading_is_signed x = sel_is_cond (ltb x 0x8000_0000)
   where
@@ -29,8 +29,14 @@ sign_left (pos a) m n short long = ap pos (div-eq_of_lt short ∙ sym (div-eq_of
 sign_left (negsuc a) m n short long = ap negsuc (div-eq_of_lt short ∙ sym (div-eq_of_lt long))
 
 -- a shift by 31 leaves the sign alone, and so does every longer one
-bounded_shift : (x w : ℕ) → x < modulus → arithmetic_shift x (min w 31) ≡ arithmetic_shift x w
+pub long_shift : (x w : ℕ) → x < modulus → 31 ≤ w → arithmetic_shift x 31 ≡ arithmetic_shift x w
 unfolding arithmetic_shift
+long_shift x w fits long =
+    let fit : SFits w32 (signed x) = signed_fits x fits in
+    let power : 2 ^ 31 ≤ 2 ^ w = pow-le-pow_right (omega arith) long in
+    ap wrap (sign_left (signed x) (2 ^ 31) (2 ^ w) fit.sfits (lt_of_lt_of_le fit.sfits power))
+
+bounded_shift : (x w : ℕ) → x < modulus → arithmetic_shift x (min w 31) ≡ arithmetic_shift x w
 bounded_shift x w fits = by_test (leb w 31) refl
   where
     by_test : (b : Bool) → leb w 31 ≡ b → arithmetic_shift x (min w 31) ≡ arithmetic_shift x w
@@ -38,10 +44,7 @@ bounded_shift x w fits = by_test (leb w 31) refl
     by_test false long =
         let above : 31 < w = leb-false w 31 long in
         let most : min w 31 ≡ 31 = omega arith in
-        let fit : SFits w32 (signed x) = signed_fits x fits in
-        let longer : 31 ≤ w = omega arith in
-        let power : 2 ^ 31 ≤ 2 ^ w = pow-le-pow_right (omega arith) longer in
-        rw most (ap wrap (sign_left (signed x) (2 ^ 31) (2 ^ w) fit.sfits (lt_of_lt_of_le fit.sfits power)))
+        rw most (long_shift x w fits (omega arith))
 
 -- the code's shift: of a reading that was kept as bits
 pub shift_is_arithmetic : (x w : ℕ) (y z : ℤ) → x < modulus → z ≡ signed x → y ≡ shr_z (to_z w32 (of_z w32 z)) (2 ^ min w 31)

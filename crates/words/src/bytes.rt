@@ -48,26 +48,15 @@ pub fn read_u32(bytes: &[u8], at: usize) -> u32
     u32::from_le_bytes(bytes_at(bytes, at))
 }
 
-// The low N bytes of a number, from an offset on. That they are all there is asked of the caller, who knows it from a test of its
-// own: the machine from its access test, the writer from that of the buffer. Bytes, offset and number go apart here and below: they are
-// what a store takes, and nothing else goes with them.
+// The low N bytes of a number, from an offset on; nothing where they are not all there. The two names below are for callers of other
+// crates, as no function of theirs should be asked how many bytes a number has.
 #[tactic(auto, using(crate::proofs::Writes::put_written))]
-pub fn store<const N: usize>(bytes: &mut [u8], at: usize, x: u32)
-    requires few { N ≤ 4 }
-    requires there { at + N ≤ length bytes.old }
-    ensures { bytes.new ≡ write_bytes N x bytes.old at }
-{
-    bytes[at..at + N].copy_from_slice(&x.to_le_bytes()[..N]);
-}
-
-// The same for any offset: nothing where they are not all there. The two names below are for callers of other crates, as no function of
-// theirs should be asked how many bytes a number has.
 fn write<const N: usize>(bytes: &mut [u8], at: usize, x: u32)
     requires { N ≤ 4 }
     ensures { bytes.new ≡ (if nat_le (at + N) (length bytes.old) then write_bytes N x bytes.old at else bytes.old) }
 {
     if N <= bytes.len() && at <= bytes.len() - N {
-        store::<N>(bytes, at, x);
+        bytes[at..at + N].copy_from_slice(&x.to_le_bytes()[..N]);
     }
 }
 

@@ -1,10 +1,13 @@
 -- A claim written over that of a target, register by register: it is the claim's bytes stored. Assumes nothing.
-use Prim.Native.Nat.{ℕ, zero, suc, ◌+◌, ◌*◌}
+use Prim.Native.Nat.{ℕ, zero, suc, ◌+◌, ◌*◌, ◌≤◌}
 use mathlib.Core.Path.{◌≡◌, refl, sym, ap, ◌∙◌}
+use mathlib.Core.Bool.{cond}
 use mathlib.Core.List.{List, [], ◌∷◌, ◌++◌, flat_map, append_assoc}
 use native.Mathlib.Nat.{add-zero, zero-add}
 use native.Mathlib.Omega.{arith}
-use lib.ListN.{length, length-append}
+use borrow.Author.Tests.{le-leb}
+use lib.Dec.{leb}
+use lib.ListN.{length, set, length-append}
 use lib.Seq.{sets}
 use Rattle.model.specs.declared.Ranges.{Ranges}
 use Rattle.model.specs.Words.{write_bytes}
@@ -13,10 +16,11 @@ use Rattle.model.specs.File.{tabulate}
 use Rattle.model.specs.Claims.{write_ranges}
 use Rattle.model.specs.Writer.{word, claim_bytes}
 use Rattle.model.proofs.Tabulate.{length-tabulate}
+use Rattle.model.proofs.Tests.{cond_true}
 use Rattle.model.proofs.Writer.Bytes.{low_length}
 use Rattle.model.proofs.Writer.Units.{units_length}
 use Rattle.model.proofs.Writer.Entries.{range_length}
-use Rattle.writer.proofs.Storing.{sets_behind, number_stored, flat_more}
+use Rattle.writer.proofs.Storing.{after-1, after-2, after-3, sets_behind, number_stored, flat_more, stored_length}
 
 -- the ranges of the first n registers, as bytes
 abbrev range_bytes : Ranges → ℕ → List ℕ
@@ -56,3 +60,16 @@ ranges_stored (suc n) at k l =
 pub claim_stored : (at : ℕ) (k : Ranges) (l : List ℕ) → write_ranges 8 at k l ≡ sets l (at + 4) (claim_bytes k)
 unfolding claim_bytes
 claim_stored at k l = ranges_stored 8 at k l
+
+-- and so a claim behind four bytes
+pub claim_behind : (l : List ℕ) (at p q r s : ℕ) {claim k : Ranges} → claim ≡ k → at + 68 ≤ length l → {after : List ℕ}
+    → let head = set (set (set (set l at p) (at + 1) q) (at + 2) r) (at + 3) s in
+    after ≡ cond (leb (at + 68) (length head)) (write_ranges 8 at claim head) head → after ≡ sets l at (p ∷ q ∷ r ∷ s ∷ claim_bytes k)
+claim_behind l at p q r s {claim} {k} is-claim room is_after =
+    let head = set (set (set (set l at p) (at + 1) q) (at + 2) r) (at + 3) s in
+    let head-is : head ≡ sets l at (p ∷ q ∷ r ∷ s ∷ []) = rw (after-1, after-2, after-3) refl in
+    let as_long : length head ≡ length l = stored_length l at (p ∷ q ∷ r ∷ s ∷ []) head-is in
+    is_after
+    ∙ cond_true (leb (at + 68) (length head)) _ _ (le-leb (at + 68) (length head) (omega arith))
+    ∙ claim_stored at claim head
+    ∙ rw (head-is, is-claim) (sets_behind l at (p ∷ q ∷ r ∷ s ∷ []) (claim_bytes k))

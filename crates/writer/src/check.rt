@@ -1,6 +1,7 @@
 // 5, 6 and 7 of tables.
-ghost use Rattle.std.specs.Prelude.{◌≡◌, length};
-ghost use Rattle.model.specs.Obligations.{first_fault};
+ghost use Rattle.std.specs.Prelude.{◌≡◌, Bool, ℕ, ◌<◌, length, [], ◌∷◌};
+ghost use Rattle.model.specs.Answers.{rule_number};
+ghost use Rattle.model.specs.Obligations.{owes, first_fault, each};
 ghost use Rattle.model.specs.File.{is_good_target, table_rules};
 ghost use Rattle.reader.specs.Findings.{fault_in};
 ghost use Rattle.writer.specs.Rows.{decoded_at, targets_at};
@@ -8,7 +9,21 @@ ghost use Rattle.writer.specs.Rows.{decoded_at, targets_at};
 use crate::tables::Tables;
 use crate::{row, target};
 use model::{Refusal, Rule};
-use reader::{finding, layout};
+use reader::layout;
+
+// Each index below n keeps the rule, or the refusal at the first that does not. (The reader has the same for bytes. No public function
+// asks anything of its callers, as one for both would, of its closure: so each crate has its own.)
+fn check_each<F: Fn(u32) -> bool>(n: u32, rule: Rule, keeps: F) -> Result<(), Refusal>
+    requires { (i : ℕ) → i < n → F.pre keeps i }
+    ensures { (kept : ℕ → Bool) → ((i : ℕ) (answer : Bool) → i < n → F.post keeps i answer → answer ≡ kept i) → fault_in result ≡ first_fault (each n (λ i. owes (rule_number rule) i (kept i) ∷ [])) }
+{
+    for i in 0..n {
+        if !keeps(i) {
+            return Err(rule.at(i));
+        }
+    }
+    Ok(())
+}
 
 impl Tables<'_> {
     // The layout, every instruction, and every target in a module of so many instructions.
@@ -25,10 +40,10 @@ impl Tables<'_> {
             return Err(Rule::BadLayout.at(0));
         }
         let n = instructions.len() as u32;
-        finding::check_each(n, Rule::BadInstruction, |i| {
+        check_each(n, Rule::BadInstruction, |i| {
             row::instruction_of(instructions[i as usize]).is_some()
         })?;
-        finding::check_each(targets.len() as u32, Rule::BadTarget, |j| {
+        check_each(targets.len() as u32, Rule::BadTarget, |j| {
             target::is_good_target(n, targets, j as usize)
         })
     }

@@ -17,7 +17,7 @@ use reader::decode::INSTRUCTION;
 use reader::field::HEADER;
 use reader::read::{CODE_AT, CODE_TAG, LAYOUT_TAG, TARGETS_TAG};
 use reader::target::TARGET;
-use words::bytes::store;
+use words::bytes::{write_u16, write_u32};
 
 // A row of a table: how many bytes it has in the file, which, and that it writes them.
 trait Row: Copy {
@@ -45,11 +45,11 @@ impl Row for InstructionRow {
     #[tactic(auto, using(crate::proofs::Storing::places), unfolding(model::specs::Words::low_bytes, model::specs::Words::write_bytes))]
     fn write(self, buffer: &mut [u8], at: usize) {
         let [op, a, b, w, imm] = self;
-        store::<1>(buffer, at, op);
-        store::<1>(buffer, at + 1, a);
-        store::<1>(buffer, at + 2, b);
-        store::<1>(buffer, at + 3, w);
-        store::<4>(buffer, at + 4, imm);
+        buffer[at] = (op % 256) as u8;
+        buffer[at + 1] = (a % 256) as u8;
+        buffer[at + 2] = (b % 256) as u8;
+        buffer[at + 3] = (w % 256) as u8;
+        write_u32(buffer, at + 4, imm);
     }
 
     ghost long = { λ x. row_length (row_of x) };
@@ -63,11 +63,11 @@ impl Row for TargetRow {
 
     ghost bytes = { λ x. target_bytes (target_row_of x) };
 
-    #[tactic(auto, using(crate::proofs::Storing::places, crate::proofs::Claiming::claim_stored, std::proofs::lemmas::Bool::Decides::nat_tests), unfolding(model::specs::Words::low_bytes, model::specs::Words::write_bytes))]
     fn write(self, buffer: &mut [u8], at: usize) {
-        store::<2>(buffer, at, self[0]);
-        store::<1>(buffer, at + 2, self[1]);
-        store::<1>(buffer, at + 3, 0);
+        buffer[at] = (self[0] % 256) as u8;
+        buffer[at + 1] = (self[0] / 256 % 256) as u8;
+        buffer[at + 2] = (self[1] % 256) as u8;
+        buffer[at + 3] = 0;
         target::write_claim(buffer, at, target::claim_of(self));
     }
 
@@ -91,7 +91,7 @@ fn write_header(buffer: &mut [u8], at: usize, tag: u8, bytes: usize)
     ensures { buffer.new ≡ sets buffer.old at (tag ∷ low_bytes 2 bytes) }
 {
     buffer[at] = tag;
-    store::<2>(buffer, at + 1, bytes as u32);
+    write_u16(buffer, at + 1, bytes as u16);
 }
 
 #[tactic(auto, using(crate::proofs::Storing::places), unfolding(model::specs::Words::low_bytes, model::specs::Words::write_bytes))]
@@ -99,9 +99,9 @@ fn write_layout(buffer: &mut [u8], at: usize, layout: Layout)
     requires { at + 12 ≤ length buffer.old }
     ensures { buffer.new ≡ sets buffer.old at (layout_words layout) }
 {
-    store::<4>(buffer, at, layout.base);
-    store::<4>(buffer, at + 4, layout.size);
-    store::<4>(buffer, at + 8, layout.guard);
+    write_u32(buffer, at, layout.base);
+    write_u32(buffer, at + 4, layout.size);
+    write_u32(buffer, at + 8, layout.guard);
 }
 
 impl Tables<'_> {

@@ -59,7 +59,7 @@ pub fn write_claim(bytes: &mut [u8], start: usize, claim: Ranges)
     }
     let Ranges { lows, highs } = claim;
     for r in 0..8 {
-        words::bytes::store::<4>(bytes, start + 4 + 8 * r, lows[r]);
-        words::bytes::store::<4>(bytes, start + 8 + 8 * r, highs[r]);
+        words::bytes::write_u32(bytes, start + 4 + 8 * r, lows[r]);
+        words::bytes::write_u32(bytes, start + 8 + 8 * r, highs[r]);
     }
 }

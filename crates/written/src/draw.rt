@@ -113,7 +113,7 @@ pub(crate) fn draw(random: &mut Random) -> Drawn {
     let doors = doors(random);
     let k = (1 + random.below(20)) / 3;
     let n = doors[k as usize][0];
-    let layout = random.pick(&LAYOUTS);
+    let layout = LAYOUTS[random.below(LAYOUTS.len() as u32) as usize];
     Drawn {
         space: Space {
             layout,
