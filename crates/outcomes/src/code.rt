@@ -49,7 +49,7 @@ impl Maker {
         let w = if self.plan.layout.guard < 3 {
             1
         } else {
-            self.random.pick(&WIDTHS)
+            self.random.pick_or_default(&WIDTHS)
         };
         if op == Op::Load && w < 4 && !self.random.one_in(4) {
             w.wrapping_add(128)
@@ -60,7 +60,7 @@ impl Maker {
 
     // Where half the guard is above a byte, r6 is loaded too: its claim bears a byte, but not one that carries the sign.
     fn access(&mut self, b: u32, spent: u32) -> Ins {
-        let op = self.random.pick(&[Op::Load, Op::Store]);
+        let op = self.random.pick_or_default(&[Op::Load, Op::Store]);
         let w = self.width(op);
         let a = if 511 < self.plan.layout.guard && self.random.one_in(2) {
             SMALL

@@ -53,7 +53,7 @@ const LENGTHS: [u32; 4] = [0, 17476, 32776, 65535];
 impl Maker {
     // Where a field begins, and how long it is.
     fn some_field(&mut self, file: &File) -> (usize, u32) {
-        self.random.pick(&file.fields())
+        self.random.pick_or_default(&file.fields())
     }
 
     fn bend_length(&mut self, file: &mut File) {
@@ -63,14 +63,14 @@ impl Maker {
             1 => right.wrapping_sub(1),
             2 => right.wrapping_add(8),
             3 => right.wrapping_add(68),
-            _ => self.random.pick(&LENGTHS),
+            _ => self.random.pick_or_default(&LENGTHS),
         };
         file.put::<2>(at.saturating_add(1), length);
     }
 
     // An instruction whose operands are as large as they may be, but for one.
     fn bent_instruction(&mut self) -> Ins {
-        let mut x = Ins::from(self.random.pick(&LARGEST));
+        let mut x = Ins::from(self.random.pick_or_default(&LARGEST));
         match self.random.below(7) {
             0 => x.a = x.a.wrapping_add(1),
             1 => x.b = x.b.wrapping_add(1),
@@ -92,11 +92,11 @@ impl Maker {
     // place.
     fn bend_width(&mut self, file: &mut File) {
         let i = self.random.below(self.plan.n);
-        let w = self.random.pick(&SIGNED);
+        let w = self.random.pick_or_default(&SIGNED);
         if self.random.one_in(2) {
             return file.put::<1>(instruction_at(i) + 3, w);
         }
-        let op = self.random.pick(&[Load, Store]);
+        let op = self.random.pick_or_default(&[Load, Store]);
         file.put_instruction(
             i,
             Ins {
@@ -152,7 +152,7 @@ impl Maker {
             2 => file.length = more.saturating_add(self.random.below(8) as usize),
             3 => self.bend_tag(file),
             4 => self.bend_length(file),
-            5 => file.put_layout(Layout::from(self.random.pick(&LAYOUTS))),
+            5 => file.put_layout(Layout::from(self.random.pick_or_default(&LAYOUTS))),
             6 | 7 => self.bend_instruction(file),
             8 | 9 => self.bend_width(file),
             _ => self.bend_door(file),

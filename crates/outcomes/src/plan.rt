@@ -66,15 +66,15 @@ pub struct Plan {
 
 fn draw_layout(random: &mut Random) -> Layout {
     Layout {
-        base: random.pick(&BASES),
+        base: random.pick_or_default(&BASES),
         size: 256,
-        guard: random.pick(&GUARDS),
+        guard: random.pick_or_default(&GUARDS),
     }
 }
 
 fn draw_miss(random: &mut Random) -> Option<Miss> {
     if random.one_in(3) {
-        Some(random.pick(&MISSES))
+        Some(random.pick_or_default(&MISSES))
     } else {
         None
     }
@@ -94,10 +94,10 @@ fn draw_doors(indexes: [u32; 4], random: &mut Random) -> [Door; 4] {
 
 impl Plan {
     fn draw(random: &mut Random) -> Plan {
-        let second = u32::from(random.pick(&GAPS));
-        let third = second + u32::from(random.pick(&GAPS));
-        let fourth = third + u32::from(random.pick(&GAPS));
-        let (k, last) = random.pick(&[(1, 0), (2, second), (3, third), (4, fourth)]);
+        let second = u32::from(random.pick_or_default(&GAPS));
+        let third = second + u32::from(random.pick_or_default(&GAPS));
+        let fourth = third + u32::from(random.pick_or_default(&GAPS));
+        let (k, last) = random.pick_or_default(&[(1, 0), (2, second), (3, third), (4, fourth)]);
         let n = last % 64 + 1 + random.below(4);
         Plan {
             layout: draw_layout(random),

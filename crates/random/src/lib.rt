@@ -50,8 +50,18 @@ impl Random {
         self.below(n) == 0
     }
 
-    // One of the values; of none the type's default, and then no number is used.
-    pub fn pick<T: Copy + Default, const N: usize>(&mut self, from: &[T; N]) -> T
+    // One of the values; there has to be one.
+    pub fn pick<T: Copy, const N: usize>(&mut self, from: &[T; N]) -> T
+        requires { 0 < N }
+        ensures given { slice_get from.now (xorshift self.old.state % N) ≡ Some result }
+        ensures kept { self.new.state ≡ xorshift self.old.state }
+    {
+        let i = self.next() as usize % N;
+        from[i]
+    }
+
+    // The same of any number of values: of none the type's default, and then no number is used.
+    pub fn pick_or_default<T: Copy + Default, const N: usize>(&mut self, from: &[T; N]) -> T
         ensures given { 0 < N → slice_get from.now (xorshift self.old.state % N) ≡ Some result }
         ensures kept { 0 < N → self.new.state ≡ xorshift self.old.state }
         ensures none { N ≡ 0 → T.is_default result }

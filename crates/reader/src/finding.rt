@@ -7,7 +7,7 @@ ghost use Rattle.reader.specs.Findings.{fault_in};
 use model::{Refusal, Rule};
 
 // Each index below n keeps the rule, or the refusal at the first that does not.
-pub(crate) fn check_each<F: Fn(u32) -> bool>(n: u32, rule: Rule, keeps: F) -> Result<(), Refusal>
+pub fn check_each<F: Fn(u32) -> bool>(n: u32, rule: Rule, keeps: F) -> Result<(), Refusal>
     requires { (i : ℕ) → i < n → F.pre keeps i }
     ensures { (kept : ℕ → Bool) → ((i : ℕ) (answer : Bool) → i < n → F.post keeps i answer → answer ≡ kept i) → fault_in result ≡ first_fault (each n (λ i. owes (rule_number rule) i (kept i) ∷ [])) }
 {

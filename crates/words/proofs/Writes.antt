@@ -1,7 +1,7 @@
 -- The low bytes of a number, put in place of those from an offset on, are the number written. Assumes nothing.
-use Rattle.std.proofs.Common.{◌≡◌, ℕ, zero, suc, ◌+◌, ◌-◌, ◌/◌, ◌%◌, ◌^◌, ◌≤◌, List, [], ◌∷◌, ◌++◌, length, set, take, drop, sym, refl, ap, ap₂, ◌∙◌, add-zero, div-one, append_assoc, length-set, arith, w32}
+use Rattle.std.proofs.Common.{◌≡◌, ℕ, zero, suc, ◌+◌, ◌-◌, ◌/◌, ◌%◌, ◌^◌, ◌<◌, ◌≤◌, List, [], ◌∷◌, ◌++◌, length, set, take, drop, sym, refl, ap, ap₂, ◌∙◌, add-zero, div-one, append_assoc, length-set, arith, w32}
 use Rattle.std.proofs.Math.Seq.{take-suc-set}
-use Rattle.std.proofs.lemmas.List.{take-append-drop, drop-set-lt}
+use Rattle.std.proofs.lemmas.List.{take-append-drop, drop-set-lt, set_past}
 use Rattle.std.specs.Int.{byte_at, bytes_low_first, to_le_bytes}
 use native.Mathlib.Nat.{div-div-eq-div-mul, pow-suc, pow-succ'}
 use borrow.Rule.Slice.PartMut.{put_mid, Post-is}
@@ -62,3 +62,20 @@ unfolding write_bytes
 writes zero x bytes at = refl
 writes (suc n) x bytes at =
     ap (λ (bs : List ℕ). set bs (at + suc n) (x / 256 ^ suc n % 256)) (writes n x bytes at) ∙ writes_next (suc n) x bytes at
+
+-- the first of the bytes that are left, set by itself
+pub write_next : (n i x : ℕ) (bytes : List ℕ) (at : ℕ) → i < n
+    → write_bytes (n - (i + 1)) (x / 256) (set bytes (at + i) (x % 256)) (at + (i + 1)) ≡ write_bytes (n - i) x bytes (at + i)
+unfolding write_bytes
+write_next n i x bytes at below =
+    let left : n - i ≡ suc (n - (i + 1)) = omega arith in
+    let place : at + (i + 1) ≡ suc (at + i) = omega arith in
+    rw (left, place) refl
+
+-- a write of bytes that all lie past the end, or of none
+pub write_past : (n x : ℕ) (bytes : List ℕ) (at : ℕ) → (0 < n → length bytes ≤ at) → write_bytes n x bytes at ≡ bytes
+unfolding write_bytes
+write_past zero x bytes at past = refl
+write_past (suc n) x bytes at past =
+    let out = past (omega arith) in
+    rw (set_past bytes at (x % 256) out) (write_past n (x / 256) bytes (suc at) (λ some. omega arith))

@@ -1,4 +1,4 @@
-// Little-endian reads and writes. A byte past the end reads as 0; inside, a read is one load and a write one store.
+// Little-endian reads and writes. A byte past the end reads as 0; inside, a read is one load, and a write of up to four bytes one store.
 ghost use Rattle.std.specs.Prelude.{◌≡◌, ℕ, ◌+◌, ◌*◌, ◌<◌, ◌≤◌, length, if◌then◌else◌, nat_le, slice_index};
 ghost use Rattle.model.specs.Words.{read_bytes, write_bytes};
 
@@ -48,8 +48,8 @@ pub fn read_u32(bytes: &[u8], at: usize) -> u32
     u32::from_le_bytes(bytes_at(bytes, at))
 }
 
-// The low N bytes of a number, from an offset on; nothing where they are not all there. The two names below are for callers of other
-// crates, as no function of theirs should be asked how many bytes a number has.
+// The low N bytes of a number, from an offset on; nothing where they are not all there. The names below are for callers of other crates:
+// none of them asks how many bytes a number has.
 #[tactic(auto, using(crate::proofs::Writes::put_written))]
 fn write<const N: usize>(bytes: &mut [u8], at: usize, x: u32)
     requires { N ≤ 4 }
@@ -57,6 +57,23 @@ fn write<const N: usize>(bytes: &mut [u8], at: usize, x: u32)
 {
     if N <= bytes.len() && at <= bytes.len() - N {
         bytes[at..at + N].copy_from_slice(&x.to_le_bytes()[..N]);
+    }
+}
+
+// The low N bytes of a number, from an offset on, for any N and any offset: those of them that lie within. Up to four that all do are one
+// store; a number's bytes past its fourth are 0. Bytes, offset and number go apart here and below: they are what a store takes, and
+// nothing else goes with them.
+pub fn store<const N: usize>(bytes: &mut [u8], at: usize, x: u32)
+    ensures { bytes.new ≡ write_bytes N x bytes.old at }
+{
+    if N <= 4 && N <= bytes.len() && at <= bytes.len() - N {
+        write::<N>(bytes, at, x);
+    } else {
+        let mut rest = x;
+        for i in 0..N.min(bytes.len().saturating_sub(at)) {
+            bytes[at + i] = (rest % 256) as u8;
+            rest /= 256;
+        }
     }
 }
 

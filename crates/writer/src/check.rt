@@ -11,8 +11,8 @@ use crate::{row, target};
 use model::{Refusal, Rule};
 use reader::layout;
 
-// Each index below n keeps the rule, or the refusal at the first that does not. (The reader has the same for bytes. No public function
-// asks anything of its callers, as one for both would, of its closure: so each crate has its own.)
+// Each index below n keeps the rule, or the refusal at the first that does not. (The reader's `finding::check_each` says the same, for
+// other crates too. This one is the writer's own: wrong programs of its own are planted in it.)
 fn check_each<F: Fn(u32) -> bool>(n: u32, rule: Rule, keeps: F) -> Result<(), Refusal>
     requires { (i : ℕ) → i < n → F.pre keeps i }
     ensures { (kept : ℕ → Bool) → ((i : ℕ) (answer : Bool) → i < n → F.post keeps i answer → answer ≡ kept i) → fault_in result ≡ first_fault (each n (λ i. owes (rule_number rule) i (kept i) ∷ [])) }

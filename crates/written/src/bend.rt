@@ -13,7 +13,7 @@ fn bend_row<const N: usize>(rows: &mut [[u32; N]], n: u32, random: &mut Random)
 {
     let i = random.below(n) as usize;
     let p = random.next() as usize % N;
-    let by = random.pick(&BY);
+    let by = random.pick_or_default(&BY);
     if i < rows.len() {
         rows[i][p] = rows[i][p].wrapping_add(by);
     }
