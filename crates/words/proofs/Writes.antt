@@ -64,10 +64,10 @@ writes (suc n) x bytes at =
     ap (λ (bs : List ℕ). set bs (at + suc n) (x / 256 ^ suc n % 256)) (writes n x bytes at) ∙ writes_next (suc n) x bytes at
 
 -- the first of the bytes that are left, set by itself
-pub write_next : (n i x : ℕ) (bytes : List ℕ) (at : ℕ) → i < n
+pub write_first : (n i x : ℕ) (bytes : List ℕ) (at : ℕ) → i < n
     → write_bytes (n - (i + 1)) (x / 256) (set bytes (at + i) (x % 256)) (at + (i + 1)) ≡ write_bytes (n - i) x bytes (at + i)
 unfolding write_bytes
-write_next n i x bytes at below =
+write_first n i x bytes at below =
     let left : n - i ≡ suc (n - (i + 1)) = omega arith in
     let place : at + (i + 1) ≡ suc (at + i) = omega arith in
     rw (left, place) refl

@@ -48,8 +48,8 @@ pub fn read_u32(bytes: &[u8], at: usize) -> u32
     u32::from_le_bytes(bytes_at(bytes, at))
 }
 
-// The low N bytes of a number, from an offset on; nothing where they are not all there. The names below are for callers of other crates:
-// none of them asks how many bytes a number has.
+// The low N bytes of a number, from an offset on; nothing where they are not all there. N is at most four here. The functions below, which
+// other crates may call, ask nothing of their callers.
 #[tactic(auto, using(crate::proofs::Writes::put_written))]
 fn write<const N: usize>(bytes: &mut [u8], at: usize, x: u32)
     requires { N ≤ 4 }
@@ -60,9 +60,9 @@ fn write<const N: usize>(bytes: &mut [u8], at: usize, x: u32)
     }
 }
 
-// The low N bytes of a number, from an offset on, for any N and any offset: those of them that lie within. Up to four that all do are one
-// store; a number's bytes past its fourth are 0. Bytes, offset and number go apart here and below: they are what a store takes, and
-// nothing else goes with them.
+// The low N bytes of a number, from an offset on, for any N and any offset: those of them that lie within the bytes. Up to four that all do
+// are one store; a number's bytes past its fourth are 0. Bytes, offset and number go apart in each of these: they are what a store takes,
+// and nothing else goes with them.
 pub fn store<const N: usize>(bytes: &mut [u8], at: usize, x: u32)
     ensures { bytes.new ≡ write_bytes N x bytes.old at }
 {
